@@ -10,13 +10,12 @@ use Rattle.lp_definitions.specs.declared.cert.Cert.{Cert}
 use Rattle.lp_cert.specs.declared.head.Waiter.{Waiter}
 use Rattle.lp_definitions.specs.declared.line.Line.{Line}
 use Rattle.lp_cert.specs.declared.open_leg.OpenLeg.{OpenLeg}
-use Rattle.lp_cert.specs.declared.open_leg.Completion.{Completion}
 use Rattle.lp_cert.specs.Ends.{waiting_in, floor_in}
 use Rattle.lp_cert.specs.Invariant.{open_end}
 use Rattle.lp_cert.specs.inside.Invariant.{waiting_cert}
 use Rattle.lp_cert.specs.Waiters.{WaitingGroups, kept_cert, waiter_in, waiters_of}
 use Rattle.lp_cert.specs.inside.Waiters.{lines_in, lines_at}
-use Rattle.lp_cert.proofs.Making.{kept, kept_map, least_waiter}
+use Rattle.lp_cert.proofs.Making.{kept, kept_map, least_waiter, no_waiter}
 
 -- ---- The certificate of a group
 
@@ -79,7 +78,7 @@ waiting_asked noted w leg group unended few =
     map_if (waiting_cert Waiting leg.opened noted group) (has w.groups group.0) (lines_in w.reasons group.0)
     ∙ (sym (find_own (kept Waiting leg.opened noted w) (λ k. refl) (has w.groups) group.0 0 65536 (omega arith) (omega arith))
     ∙ (ap (find (is_of group.0)) (sym (kept_map Waiting leg.opened noted w))
-    ∙ ap (λ (o : Option Completion). waiting_in (Some (open_end noted w (record leg { completed = o }))) group.0) (sym unended)))
+    ∙ ap (λ (o : Option ℕ). waiting_in (Some (open_end noted w (record leg { completed = o }))) group.0) (sym unended)))
 
 -- ---- The least
 
@@ -98,7 +97,7 @@ get_map f (x ∷ xs) = refl
 module _ (noted : ℕ) (w : WaitingGroups) (leg : OpenLeg) (unended : leg.completed ≡ None) where
   floor_is : (o : Option Waiter) → slice_get (waiters_of w) 0 ≡ o → floor_in (Some (open_end noted w leg)) ≡ option_map (kept_cert Floor leg.opened noted w.reasons.lists w.reasons.scans) o
   floor_is o e =
-      ap (λ (c : Option Completion). floor_in (Some (open_end noted w (record leg { completed = c })))) unended
+      ap (λ (c : Option ℕ). floor_in (Some (open_end noted w (record leg { completed = c })))) unended
       ∙ (ap (option_map (λ (cert : Cert). record cert { claim = Floor })) (get_map (kept_cert Waiting leg.opened noted w.reasons.lists w.reasons.scans) (waiters_of w) ∙ ap (option_map (kept_cert Waiting leg.opened noted w.reasons.lists w.reasons.scans)) e)
       ∙ twice o)
     where
@@ -107,14 +106,14 @@ module _ (noted : ℕ) (w : WaitingGroups) (leg : OpenLeg) (unended : leg.comple
       twice (Some waiter) = refl
 
   pub no_floor : IsNextFrom (has w.groups) 0 None → None ≡ floor_in (Some (open_end noted w leg))
-  no_floor next = sym (floor_is None (no_first (waiters_of w) (sym (least_waiter w None next tt))))
+  no_floor next = sym (floor_is None (no_first (waiters_of w) (ap (take 1) (no_waiter w next))))
 
   pub floor_asked : (group : GroupId) → IsNextFrom (has w.groups) 0 (Some group.0) → group.0 < 65536
       → option_map (waiting_cert Floor leg.opened noted group) (lines_at w group.0) ≡ floor_in (Some (open_end noted w leg))
   floor_asked group next few =
       map_if (waiting_cert Floor leg.opened noted group) (has w.groups group.0) (lines_in w.reasons group.0)
       ∙ (cond-true (has w.groups group.0) (Some (waiting_cert Floor leg.opened noted group (lines_in w.reasons group.0))) None next.passes
-      ∙ sym (floor_is (Some (waiter_in w.reasons group.0)) (first_one (waiters_of w) (waiter_in w.reasons group.0) (sym (least_waiter w (Some group) next few)))))
+      ∙ sym (floor_is (Some (waiter_in w.reasons group.0)) (first_one (waiters_of w) (waiter_in w.reasons group.0) (least_waiter w group.0 next few))))
 
 pub not_some : {A : Type 0} (o : Option A) → is_some o ≡ false → o ≡ None
 not_some None e = refl

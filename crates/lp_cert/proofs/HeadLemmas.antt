@@ -1,8 +1,8 @@
 -- The lines of a group's reasons, and what a refusal at a further scan makes of them.
-use Rattle.std.proofs.Common.{◌≡◌, ℕ, ◌+◌, ◌-◌, ◌<◌, ◌≤◌, ◌⊎◌, inl, inr, ⊎_elim, Bool, true, false, ◌&&◌, List, [], ◌∷◌, ◌++◌, length, map, reverse, take, drop, nat_eq, nat_lt, get_or, refl, sym, ap, ap₂, subst, ◌∙◌, arith}
+use Rattle.std.proofs.Common.{◌≡◌, ℕ, ◌+◌, ◌-◌, ◌<◌, ◌≤◌, inl, inr, ⊎_elim, Bool, true, false, ◌&&◌, List, [], ◌∷◌, ◌++◌, length, map, reverse, take, drop, nat_eq, nat_lt, get_or, if◌then◌else◌, refl, sym, ap, ap₂, subst, ◌∙◌, arith}
 use Rattle.std.proofs.Math.ListN.{get_or-append}
 use Rattle.std.proofs.Math.Seq.{get_or-append_seam, drop-append_seam}
-use Rattle.std.proofs.lemmas.Bool.{eqb-true, ltb-true, ltb-false, lt-ltb, le-ltb, cond-true, cond-false}
+use Rattle.std.proofs.lemmas.Bool.{eq-eqb, eqb-true, ltb-true, ltb-false, lt-ltb, le-ltb, cond-true, cond-false}
 use Rattle.std.proofs.lemmas.List.{length-append, length-drop, drop_all, take_all, take-append-le, drop-append-le, reverse-append, length-reverse}
 use Rattle.std.specs.List.{AllByRecursion}
 use Rattle.lp_stack.specs.declared.number.GroupId.{GroupId}
@@ -21,8 +21,8 @@ use Rattle.lp_cert.specs.declared.head.Refused.{Refused}
 use Rattle.lp_cert.specs.declared.head.OwnFork.{OwnFork}
 use Rattle.lp_definitions.specs.Certificates.{refusal_line, after_refusal}
 use Rattle.lp_cert.specs.Heads.{busy_lines, reason_lines, lines_of, ongoing_reasons, hold_end}
-use Rattle.lp_cert.specs.inside.Heads.{is_held}
-use Rattle.lp_cert.specs.inside.Heads.{FitsIn, ContinuesIn, IsUnchecked, IsBusyInFront, FitsOlder, IsKnown, IsHead, Keeps, IsUsed, HasFrameAs, is_busy, continues_after, reason_begun_by, busy_reasons, IsRefusedBy, IsRefusedAlone, IsBornBy}
+use Rattle.lp_cert.specs.Waiters.{no_head}
+use Rattle.lp_cert.specs.inside.Heads.{is_held, FitsIn, ContinuesIn, IsUnchecked, IsBusyInFront, FitsOlder, IsHead, Keeps, IsUsed, HasFrameAs, is_busy, continues_after, reason_begun_by, busy_reasons, IsRefusedBy, IsRefusedAlone, IsBornBy}
 
 -- ---- A further scan
 
@@ -60,12 +60,6 @@ older_further : (n : ℕ) (o : Ongoing) (rs : List Reason) → ContinuesIn n o �
 older_further n Nothing rs goes h = h
 older_further n (Hold t serial from last) rs goes h = tt
 older_further n (Busy t first) rs goes h = inl (omega (arith, goes))
-
--- with more scans something is known still
-known_further : (lists n : ℕ) (o : Ongoing) → IsKnown lists n o → IsKnown lists (n + 1) o
-known_further lists n Nothing h = tt
-known_further lists n (Hold t serial from last) h = inl (omega arith)
-known_further lists n (Busy t first) h = inl (omega arith)
 
 last-more : (scans : List ℕ) (at : ℕ) → get_or (more scans at) (length (more scans at) - 1) 0 ≡ at
 last-more scans at =
@@ -148,16 +142,6 @@ begun_fits : (n : ℕ) (t : TaskId) (at : ℕ) (b : Blame) (rs : List Reason) �
 begun_fits n t at (blame.Frame serial) rs used = tt
 begun_fits n t at blame.Busy rs used = inl (omega arith)
 begun_fits n t at blame.Unused rs used = absurd used
-
-begun_known_more : (lists n : ℕ) (t : TaskId) (at : ℕ) (b : Blame) → IsKnown lists (n + 1) (reason_begun_by n t at b)
-begun_known_more lists n t at (blame.Frame serial) = inl (omega arith)
-begun_known_more lists n t at blame.Busy = inl (omega arith)
-begun_known_more lists n t at blame.Unused = tt
-
-begun_known : (lists n : ℕ) (t : TaskId) (at : ℕ) (b : Blame) → (0 < n) ⊎ (1 < lists) → IsKnown lists n (reason_begun_by n t at b)
-begun_known lists n t at (blame.Frame serial) some = some
-begun_known lists n t at blame.Busy some = some
-begun_known lists n t at blame.Unused some = tt
 
 -- ---- A refusal
 
@@ -268,7 +252,6 @@ module _ (scans : List ℕ) (group : GroupId) (refused : Refused) (head : Head) 
       fits = all_fit_further (length scans) (get_or old head.older.0 []) is_head.fits;
       continues = continues_further (length scans) head.ongoing is_head.continues;
       fits_older = older_further (length scans) head.ongoing (get_or old head.older.0 []) is_head.continues is_head.fits_older;
-      some_list = known_further (length old) (length scans) head.ongoing is_head.some_list;
     };
     kept = record { no_less = omega arith; same = λ i h. refl };
   }
@@ -293,7 +276,6 @@ module _ (scans : List ℕ) (group : GroupId) (refused : Refused) (head : Head) 
           fits = subst (AllByRecursion (FitsIn (length scans + 1))) (sym list) (all_fit_further (length scans) closed fits);
           continues = subst (ContinuesIn (length scans + 1)) (sym begins) (begun_continues (length scans) refused.task refused.at refused.blame used);
           fits_older = subst (λ o. FitsOlder (length scans + 1) o (get_or new next.older.0 [])) (sym begins) (begun_fits (length scans) refused.task refused.at refused.blame (get_or new next.older.0 []) used);
-          some_list = subst (IsKnown (length new) (length scans + 1)) (sym begins) (begun_known_more (length new) (length scans) refused.task refused.at refused.blame);
         };
         kept = kept;
       }
@@ -365,7 +347,6 @@ module _ (scans : List ℕ) (group : GroupId) (refused : Refused) (head : Head) 
           fits = is_head.fits;
           continues = omega arith;
           fits_older = tt;
-          some_list = subst (IsKnown (length old) (length scans)) held is_head.some_list;
         };
         kept = record { no_less = omega arith; same = λ i h. refl };
       })
@@ -374,9 +355,9 @@ module _ (scans : List ℕ) (group : GroupId) (refused : Refused) (head : Head) 
   pub alone_new : (next : Head) (new : List (List Reason)) → IsUsed refused.blame → ((task : TaskId) (serial from : ℕ) (last : Checked) → head.ongoing ≡ Hold task serial from last → refused.frame_stands ≡ false)
       → next.ongoing ≡ reason_begun_by (length scans) refused.task refused.at refused.blame
       → get_or new next.older.0 [] ≡ busy_reasons group refused ++ (ongoing_reasons scans group head.ongoing ++ get_or old head.older.0 [])
-      → next.older.0 < length new → 1 < length new → Keeps old new
+      → next.older.0 < length new → Keeps old new
       → IsRefusedAlone refused group scans head next old new
-  alone_new next new used not_on begins list known some kept =
+  alone_new next new used not_on begins list known kept =
       let closed : List Reason = ongoing_reasons scans group head.ongoing ++ get_or old head.older.0 [] in
       let fits : AllByRecursion (FitsIn (length scans)) closed = ongoing_fits scans group head.ongoing (get_or old head.older.0 []) is_head.continues is_head.fits in
       record {
@@ -391,7 +372,6 @@ module _ (scans : List ℕ) (group : GroupId) (refused : Refused) (head : Head) 
           fits_older =
               subst (λ o. FitsOlder (length scans) o (get_or new next.older.0 [])) (sym begins)
               (subst (FitsOlder (length scans) (reason_begun_by (length scans) refused.task refused.at refused.blame)) (sym list) (alone_fits (length scans) group refused closed used));
-          some_list = subst (IsKnown (length new) (length scans)) (sym begins) (begun_known (length new) (length scans) refused.task refused.at refused.blame (inr some));
         };
         kept = kept;
       }
@@ -403,7 +383,6 @@ head_further lists n head is = record {
   fits = all_fit_further n (get_or lists head.older.0 []) is.fits;
   continues = continues_further n head.ongoing is.continues;
   fits_older = older_further n head.ongoing (get_or lists head.older.0 []) is.continues is.fits_older;
-  some_list = known_further (length lists) n head.ongoing is.some_list;
 }
 
 -- ---- A birth
@@ -438,7 +417,6 @@ module _ (scans : List ℕ) (group : GroupId) (birth : OwnFork) (head : Head) (o
           fits = subst (AllByRecursion (FitsIn (length scans))) (sym list) (tt, ongoing_fits scans group head.ongoing (get_or old head.older.0 []) is_head.continues is_head.fits);
           continues = subst (ContinuesIn (length scans)) (sym quiet) tt;
           fits_older = subst (λ o. FitsOlder (length scans) o (get_or new next.older.0 [])) (sym quiet) (subst IsUnchecked (sym list) tt);
-          some_list = subst (IsKnown (length new) (length scans)) (sym quiet) tt;
         };
         kept = subst (Keeps old) (sym is) (keeps_push old mid (reason.One (line.Born birth.child birth.parent birth.at) ∷ get_or mid before []) kept);
       }
@@ -448,3 +426,12 @@ pub frame_as : (has_frame : (task serial : ℕ) → Bool) (o : Ongoing) (held : 
 frame_as has_frame Nothing held is = tt
 frame_as has_frame (Hold task serial from last) held is = sym is
 frame_as has_frame (Busy task first) held is = tt
+
+-- ---- Where a group is put
+
+-- what is said of how a group stood over the scans, and of the reasons with which another was put there
+pub put_there : (P : List ℕ → Head → Head → Type 0) (scans same : List ℕ) (head next : Head) (old new : List Head) (from number : ℕ) → scans ≡ same → head ≡ get_or old from no_head
+    → ((n : ℕ) → get_or new n no_head ≡ (if nat_eq n number then next else get_or old n no_head)) → P scans head next → P same (get_or old from no_head) (get_or new number no_head)
+put_there P scans same head next old new from number scans_are stood values holds =
+    let there = values number ∙ cond-true (nat_eq number number) next (get_or old number no_head) (eq-eqb number number refl) in
+    subst (λ h. P same (get_or old from no_head) h) (sym there) (subst (λ h. P same h next) stood (subst (λ xs. P xs head next) scans_are holds))

@@ -1,18 +1,20 @@
 -- Ends of legs as they are kept: what is added leaves the others as they are.
-use Rattle.std.proofs.Common.{◌≡◌, ℕ, zero, suc, ◌+◌, ◌≤◌, true, false, List, [], ◌∷◌, ◌++◌, length, map, drop, take, get_or, slice_get, Option, Some, None, All, refl, sym, ap, ap₂, ◌∙◌, arith}
+use Rattle.std.proofs.Common.{◌≡◌, ℕ, zero, suc, ◌+◌, ◌-◌, ◌≤◌, false, List, [], ◌∷◌, ◌++◌, length, map, drop, take, slice_get, Option, Some, None, All, refl, sym, ap, ap₂, ◌∙◌, arith}
 use Rattle.std.proofs.lemmas.Bool.{false≢true}
-use Rattle.std.proofs.lemmas.List.{drop-append-le, drop_all, get_or_append_left, length-append, length-drop, map-append, take-append-le, take_all}
-use Rattle.std.proofs.lemmas.List.Elements.{All-head, All-push, All-tail, All-weaker}
+use Rattle.std.proofs.lemmas.List.{drop-append-le, drop_all, get_or_append_left, length-drop, take-append-le, take_all}
+use Rattle.std.proofs.lemmas.List.Elements.{All-head, All-tail}
 use Rattle.lp_stack.specs.declared.number.GroupId.{GroupId}
 use Rattle.lp_definitions.specs.Ends.{LegEnd}
 use Rattle.lp_definitions.specs.declared.cert.Cert.{Cert}
-use Rattle.std.specs.Option.{option_map}
-use Rattle.lp_cert.specs.declared.open_leg.Completion.{Completion}
+use Rattle.lp_definitions.specs.declared.cert.Claim.TheVariants as claim
+use Rattle.lp_definitions.specs.Certificates.{group_id}
+use Rattle.lp_numbers.specs.Numbers.{has}
+use Rattle.lp_tasks.specs.Passing.{passing}
 use Rattle.lp_cert.specs.declared.open_leg.OpenLeg.{OpenLeg}
 use Rattle.lp_cert.specs.Invariant.{open_end}
 use Rattle.lp_cert.specs.Waiters.{WaitingGroups}
-use Rattle.lp_cert.specs.inside.Bare.{bare_certs}
-use Rattle.lp_cert.specs.inside.Invariant.{IsBareLeg, end_groups, head_after}
+use Rattle.lp_cert.specs.inside.Waiters.{AreBare}
+use Rattle.lp_cert.proofs.Bare.{all_bare}
 use Rattle.lp_cert.specs.declared.leg_rows.LegRow.{LegRow}
 use Rattle.lp_cert.specs.declared.leg_rows.RowKind.{RowKind}
 use Rattle.lp_cert.specs.declared.leg_rows.RowKind.TheVariants.{Waiting, Complete, Other}
@@ -42,11 +44,6 @@ same_with_ends Waiting gs os ns row fits = refl
 same_with_ends Complete gs os ns row fits = refl
 same_with_ends Other gs os ns row fits = get_or_append_left os ns (bare_end row []) row.start fits
 
-fits_further : (k : RowKind) (g h o p : ℕ) (row : LegRow) → g ≤ h → o ≤ p → IsFittingAs k g o row → IsFittingAs k h p row
-fits_further Waiting g h o p row more others fits = omega (arith, fits, more)
-fits_further Complete g h o p row more others fits = omega (arith, fits, more)
-fits_further Other g h o p row more others fits = omega (arith, fits, others)
-
 all_same : (f g : LegRow → LegEnd) (P : LegRow → Type 0) → ((row : LegRow) → P row → f row ≡ g row) → (rows : List LegRow) → All P rows → map f rows ≡ map g rows
 all_same f g P same [] all = refl
 all_same f g P same (row ∷ rows) all = ap₂ (λ (e : LegEnd) (es : List LegEnd). e ∷ es) (same row (All-head P row rows all)) (all_same f g P same rows (All-tail P row rows all))
@@ -59,71 +56,46 @@ own_as Waiting gs ms os row own begins many = ap (bare_end row) (part_own gs ms 
 own_as Complete gs ms os row own begins many = ap (bare_end row) (part_own gs ms row.start row.count begins many)
 own_as Other gs ms os row own begins many = absurd (false≢true (sym own))
 
-own_fits : (k : RowKind) (g o : ℕ) (row : LegRow) → is_other k ≡ false → row.start + row.count ≤ g → IsFittingAs k g o row
-own_fits Waiting g o row own within = within
-own_fits Complete g o row own within = within
-own_fits Other g o row own within = absurd (false≢true (sym own))
-
-other_as : (k : RowKind) (gs : List GroupId) (os : List LegEnd) (end : LegEnd) (row : LegRow) → is_other k ≡ true → row.start ≡ length os → row_end_as k gs (os ++ end ∷ []) row ≡ end
-other_as Waiting gs os end row other place = absurd (false≢true other)
-other_as Complete gs os end row other place = absurd (false≢true other)
-other_as Other gs os end row other place = ap (λ (n : ℕ). get_or (os ++ end ∷ []) n (bare_end row [])) place ∙ last os
-  where
-    last : (es : List LegEnd) → get_or (es ++ end ∷ []) (length es) (bare_end row []) ≡ end
-    last [] = refl
-    last (e ∷ es) = last es
-
 module _ (gs ms : List GroupId) (os : List LegEnd) (rows : List LegRow) (all : All (IsFitting (length gs) (length os)) rows) where
   -- groups that no row tells of change nothing
-  pub groups_added : map (row_end (gs ++ ms) os) rows ≡ map (row_end gs os) rows
-  groups_added = all_same (row_end (gs ++ ms) os) (row_end gs os) (IsFitting (length gs) (length os)) (λ r fits. same_with_groups r.kind gs ms os r fits) rows all
+  pub groups_added : (l : List GroupId) (ends : List LegEnd) → l ≡ gs ++ ms → map (row_end gs os) rows ≡ ends → map (row_end l os) rows ≡ ends
+  groups_added l ends is were =
+      ap (λ (l : List GroupId). map (row_end l os) rows) is
+      ∙ (all_same (row_end (gs ++ ms) os) (row_end gs os) (IsFitting (length gs) (length os)) (λ r fits. same_with_groups r.kind gs ms os r fits) rows all
+      ∙ were)
 
-  pub still_fitting : All (IsFitting (length (gs ++ ms)) (length os)) rows
-  still_fitting =
-      All-weaker (IsFitting (length gs) (length os)) (IsFitting (length (gs ++ ms)) (length os)) (λ r fits. fits_further r.kind (length gs) (length (gs ++ ms)) (length os) (length os) r (omega (arith, length-append gs ms)) (omega arith) fits) rows all
+module _ (gs ms : List GroupId) (os : List LegEnd) (row : LegRow) (own : is_other row.kind ≡ false) (begins : row.start ≡ length gs) (many : row.count ≡ length ms) where
+  pub own_end : (l : List GroupId) → l ≡ gs ++ ms → row_end l os row ≡ bare_end row ms
+  own_end l is = ap (λ (l : List GroupId). row_end l os row) is ∙ own_as row.kind gs ms os row own begins many
 
-  module _ (row : LegRow) (own : is_other row.kind ≡ false) (begins : row.start ≡ length gs) (many : row.count ≡ length ms) where
-    pub own_pushed : map (row_end (gs ++ ms) os) (rows ++ row ∷ []) ≡ map (row_end gs os) rows ++ bare_end row ms ∷ []
-    own_pushed =
-        map-append (row_end (gs ++ ms) os) rows (row ∷ [])
-        ∙ ap₂ (λ (es : List LegEnd) (e : LegEnd). es ++ e ∷ []) groups_added (own_as row.kind gs ms os row own begins many)
-
-    pub own_fitting : All (IsFitting (length (gs ++ ms)) (length os)) (rows ++ row ∷ [])
-    own_fitting =
-        All-push (IsFitting (length (gs ++ ms)) (length os)) rows row still_fitting
-        (own_fits row.kind (length (gs ++ ms)) (length os) row own (omega (arith, begins, many, length-append gs ms)))
-
-module _ (gs : List GroupId) (os : List LegEnd) (rows : List LegRow) (row : LegRow) (end : LegEnd) (all : All (IsFitting (length gs) (length os)) rows) (other : is_other row.kind ≡ true) (place : row.start ≡ length os) where
-  pub other_pushed : map (row_end gs (os ++ end ∷ [])) (rows ++ row ∷ []) ≡ map (row_end gs os) rows ++ end ∷ []
-  other_pushed =
-      map-append (row_end gs (os ++ end ∷ [])) rows (row ∷ [])
-      ∙ ap₂ (λ (es : List LegEnd) (e : LegEnd). es ++ e ∷ [])
-      (all_same (row_end gs (os ++ end ∷ [])) (row_end gs os) (IsFitting (length gs) (length os)) (λ r fits. same_with_ends r.kind gs os (end ∷ []) r fits) rows all)
-      (other_as row.kind gs os end row other place)
+module _ (gs : List GroupId) (os : List LegEnd) (end : LegEnd) where
+  -- nor does an end that no row tells of
+  pub end_added : (rows : List LegRow) → All (IsFitting (length gs) (length os)) rows → map (row_end gs (os ++ end ∷ [])) rows ≡ map (row_end gs os) rows
+  end_added rows all = all_same (row_end gs (os ++ end ∷ [])) (row_end gs os) (IsFitting (length gs) (length os)) (λ r fits. same_with_ends r.kind gs os (end ∷ []) r fits) rows all
 
 -- ---- The row of a leg
 
 pub own_row : (noted : ℕ) (leg : OpenLeg) (start count : ℕ) → is_other (row_after noted leg start count).kind ≡ false
 own_row noted leg start count = by leg.completed
   where
-    by : (o : Option Completion) → is_other (kind_of o) ≡ false
+    by : (o : Option ℕ) → is_other (kind_of o) ≡ false
     by None = refl
-    by (Some done) = refl
+    by (Some at) = refl
 
 -- it tells the end of the leg
-pub row_tells : (noted : ℕ) (leg : OpenLeg) (start count : ℕ) (w : WaitingGroups) → IsBareLeg w leg → bare_end (row_after noted leg start count) (end_groups leg.completed w) ≡ open_end noted w leg
-row_tells noted leg start count w bare =
-    by leg.completed
-    ∙ ap (λ (certs : List Cert). record { opened = leg.opened; target = leg.target; completed = option_map (λ done. done.at) leg.completed; certs = certs }) (sym (bare noted))
+pub row_tells : (noted : ℕ) (leg : OpenLeg) (start count : ℕ) (w : WaitingGroups) → AreBare w → bare_end (row_after noted leg start count) (map group_id (passing 0 65536 (has w.groups))) ≡ open_end noted w leg
+row_tells noted leg start count w bare = by leg.completed
   where
-    gs : List GroupId
-    gs = end_groups leg.completed w
+    groups : List ℕ
+    groups = passing 0 65536 (has w.groups)
 
-    by : (o : Option Completion)
-        → bare_end (row_after noted (record leg { completed = o }) start count) gs
-        ≡ record { opened = leg.opened; target = leg.target; completed = option_map (λ done. done.at) o; certs = bare_certs (head_after noted (record leg { completed = o })) gs }
-    by None = refl
-    by (Some done) = refl
+    by : (o : Option ℕ) → bare_end (row_after noted (record leg { completed = o }) start count) (map group_id groups) ≡ open_end noted w (record leg { completed = o })
+    by None =
+        ap (λ (certs : List Cert). record { opened = leg.opened; target = leg.target; completed = None; certs = certs })
+        (all_bare claim.Waiting leg.opened noted w.reasons groups bare)
+    by (Some at) =
+        ap (λ (certs : List Cert). record { opened = leg.opened; target = leg.target; completed = Some at; certs = certs })
+        (all_bare claim.Floor leg.opened (at - 1) w.reasons groups bare)
 
 -- ---- One after the other
 

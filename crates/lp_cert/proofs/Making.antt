@@ -1,11 +1,10 @@
 -- The end of the leg under way as it is kept, and as it is defined.
-use Rattle.std.proofs.Common.{◌≡◌, ℕ, zero, suc, ◌+◌, ◌-◌, ◌<◌, ◌≤◌, Bool, true, false, List, [], ◌∷◌, map, filter, take, reverse, Option, Some, None, IfSome, is_none, if◌then◌else◌, refl, sym, ap, ap₂, subst, ◌∙◌, ⊎_elim, arith}
+use Rattle.std.proofs.Common.{◌≡◌, ℕ, zero, suc, ◌+◌, ◌-◌, ◌<◌, ◌≤◌, Bool, true, false, List, [], ◌∷◌, length, map, set, filter, take, reverse, Option, Some, None, is_none, if◌then◌else◌, refl, sym, ap, ap₂, subst, ◌∙◌, ⊎_elim, arith}
 use Rattle.std.specs.List.{range_with_len}
 use Rattle.std.specs.Option.{option_map}
 use Rattle.std.proofs.lemmas.Bool.{false≢true, cond-true, cond-false, cases_eq}
-use Rattle.std.proofs.lemmas.List.{reverse-reverse}
-use Rattle.lp_stack.specs.declared.number.GroupId.{GroupId}
-use Rattle.lp_numbers.specs.Numbers.{Numbers, has, IsNextFrom}
+use Rattle.std.proofs.lemmas.List.{get_or-set_other, get_or-set_same, reverse-reverse}
+use Rattle.lp_numbers.specs.Numbers.{Numbers, has, IsEmpty, IsNextFrom}
 use Rattle.lp_tasks.specs.Passing.{passing}
 use Rattle.lp_tasks.proofs.Passing.{passing-none, passing-skip}
 use Rattle.lp_definitions.specs.declared.cert.Claim.{Claim}
@@ -16,11 +15,10 @@ use Rattle.lp_cert.specs.declared.head.Waiter.{Waiter}
 use Rattle.lp_cert.specs.declared.reason.Reason.{Reason}
 use Rattle.lp_definitions.specs.declared.line.Line.{Line}
 use Rattle.lp_definitions.specs.Ends.{LegEnd}
-use Rattle.lp_cert.specs.declared.open_leg.Completion.{Completion}
 use Rattle.lp_cert.specs.declared.open_leg.OpenLeg.{OpenLeg}
 use Rattle.lp_definitions.specs.Certificates.{group_id}
-use Rattle.lp_cert.specs.Invariant.{claim_of, upto_of, open_end, floor_waiters, end_waiters}
-use Rattle.lp_cert.specs.Waiters.{WaitingGroups, head_of, kept_cert, waiter_in, waiters_of}
+use Rattle.lp_cert.specs.Invariant.{claim_of, upto_of, open_end}
+use Rattle.lp_cert.specs.Waiters.{LegReasons, WaitingGroups, head_of, kept_cert, waiter_in, waiters_of}
 use Rattle.lp_cert.specs.inside.Waiters.{lines_in, lines_at}
 
 pub none_is : {A : Type 0} (o : Option A) → is_none o ≡ true → o ≡ None
@@ -37,22 +35,17 @@ module _ (new old : WaitingGroups) (groups : new.groups ≡ old.groups) (heads :
   same_waiter : (g : ℕ) → waiter_in new.reasons g ≡ waiter_in old.reasons g
   same_waiter g = ap (λ (h : Head). record { group = group_id g; head = h }) (heads g)
 
-  same_floor : (o : Option GroupId) → floor_waiters new.reasons o ≡ floor_waiters old.reasons o
-  same_floor None = refl
-  same_floor (Some g) = ap (λ (w : Waiter). w ∷ []) (same_waiter g.0)
-
-  same_waiters : (completed : Option Completion) → end_waiters completed new ≡ end_waiters completed old
-  same_waiters None =
+  same_waiters : waiters_of new ≡ waiters_of old
+  same_waiters =
       map_same (waiter_in new.reasons) (waiter_in old.reasons) same_waiter (passing 0 65536 (has new.groups))
       ∙ ap (λ (gs : Numbers). map (waiter_in old.reasons) (passing 0 65536 (has gs))) groups
-  same_waiters (Some done) = same_floor done.floor
 
   abbrev end_as : (noted : ℕ) (leg : OpenLeg) → List (List Reason) → List ℕ → List Waiter → Option LegEnd
   end_as noted leg lists scans waiters =
       Some (record {
         opened = leg.opened;
         target = leg.target;
-        completed = option_map (λ done. done.at) leg.completed;
+        completed = leg.completed;
         certs = map (kept_cert (claim_of leg.completed) leg.opened (upto_of noted leg.completed) lists scans) waiters;
       })
 
@@ -60,8 +53,8 @@ module _ (new old : WaitingGroups) (groups : new.groups ≡ old.groups) (heads :
       → (current : Option OpenLeg) → option_map (open_end noted new) current ≡ option_map (open_end noted old) current
   open_end_same noted lists scans None = refl
   open_end_same noted lists scans (Some leg) =
-      ap₂ (λ ls xs. end_as noted leg ls xs (end_waiters leg.completed new)) lists scans
-      ∙ ap (end_as noted leg old.reasons.lists old.reasons.scans) (same_waiters leg.completed)
+      ap₂ (λ ls xs. end_as noted leg ls xs (waiters_of new)) lists scans
+      ∙ ap (end_as noted leg old.reasons.lists old.reasons.scans) same_waiters
 
 -- ---- Certificates by their groups
 
@@ -195,26 +188,51 @@ take_one : {A B : Type 0} (f : A → B) (xs : List A) → take 1 (map f xs) ≡ 
 take_one f [] = refl
 take_one f (x ∷ xs) = refl
 
-passing_first : (n limit : ℕ) (test : ℕ → Bool) → n < limit → test n ≡ true → take 1 (passing n limit test) ≡ n ∷ []
+passing_at : (n limit : ℕ) (test : ℕ → Bool) → n < limit → test n ≡ true → passing n limit test ≡ n ∷ passing (n + 1) limit test
 unfolding passing
-passing_first n limit test below holds =
-    let count : limit - n ≡ suc (limit - n - 1) = omega arith in
-    ap (λ m. take 1 (filter test (range_with_len n m))) count
-    ∙ ap (take 1) (cond-true (test n) (n ∷ filter test (range_with_len (n + 1) (limit - n - 1))) (filter test (range_with_len (n + 1) (limit - n - 1))) holds)
+passing_at n limit test below holds =
+    let count : limit - n ≡ suc (limit - (n + 1)) = omega arith in
+    ap (λ m. filter test (range_with_len n m)) count
+    ∙ cond-true (test n) (n ∷ filter test (range_with_len (n + 1) (limit - (n + 1)))) (filter test (range_with_len (n + 1) (limit - (n + 1)))) holds
 
-pub least_waiter : (w : WaitingGroups) (o : Option GroupId) → IsNextFrom (has w.groups) 0 (option_map (λ (g : GroupId). g.0) o) → IfSome o (λ g. g.0 < 65536) → floor_waiters w.reasons o ≡ take 1 (waiters_of w)
-least_waiter w None next few =
-    sym (ap (λ ns. take 1 (map (waiter_in w.reasons) ns)) (passing-none 0 65536 (has w.groups) (λ n low high. next n low)))
-least_waiter w (Some g) next few =
-    sym (ap (λ ns. take 1 (map (waiter_in w.reasons) ns)) (passing-skip 0 g.0 65536 (has w.groups) (omega arith) (omega (arith, few)) next.least)
-    ∙ (take_one (waiter_in w.reasons) (passing g.0 65536 (has w.groups))
-    ∙ ap (map (waiter_in w.reasons)) (passing_first g.0 65536 (has w.groups) few next.passes)))
+pub no_waiter : (w : WaitingGroups) → IsNextFrom (has w.groups) 0 None → waiters_of w ≡ []
+no_waiter w next = ap (map (waiter_in w.reasons)) (passing-none 0 65536 (has w.groups) (λ n low high. next n low))
+
+pub no_waiters : (w : WaitingGroups) → ((g : ℕ) → lines_at w g ≡ None) → waiters_of w ≡ []
+no_waiters w none = no_waiter w (λ g low. out (has w.groups g) (lines_in w.reasons g) (none g))
+  where
+    out : (b : Bool) (ls : List Line) → (if b then Some ls else None) ≡ None → b ≡ false
+    out true ls e = absurd (cc)
+    out false ls e = refl
+
+-- the least, and those after it
+least_first : (test : ℕ → Bool) (n : ℕ) → IsNextFrom test 0 (Some n) → n < 65536 → passing 0 65536 test ≡ n ∷ passing (n + 1) 65536 test
+least_first test n next few = passing-skip 0 n 65536 test (omega arith) (omega (arith, few)) next.least ∙ passing_at n 65536 test few next.passes
+
+pub least_waiter : (w : WaitingGroups) (n : ℕ) → IsNextFrom (has w.groups) 0 (Some n) → n < 65536 → take 1 (waiters_of w) ≡ waiter_in w.reasons n ∷ []
+least_waiter w n next few = ap (λ ns. take 1 (map (waiter_in w.reasons) ns)) (least_first (has w.groups) n next few)
+
+-- it alone
+module _ (empty : Numbers) (n : ℕ) (none : IsEmpty empty) (numbers : length empty ≡ 65536) (few : n < 65536) where
+  one_in : has (set empty n true) n ≡ true
+  one_in = get_or-set_same empty n true false (omega (arith, few, numbers))
+
+  pub others_out : (k : ℕ) → (k ≡ n → ⊥) → has (set empty n true) k ≡ false
+  others_out k ne = get_or-set_other empty n k true false ne ∙ none k
+
+  one_listed : passing 0 65536 (has (set empty n true)) ≡ n ∷ []
+  one_listed =
+      least_first (has (set empty n true)) n (record { within = omega arith; passes = one_in; least = λ k low below. others_out k (λ e. omega (arith, e, below)) }) few
+      ∙ ap (λ ns. n ∷ ns) (passing-none (n + 1) 65536 (has (set empty n true)) (λ k low high. others_out k (λ e. omega (arith, e, low))))
+
+  pub least_alone : (w : WaitingGroups) → IsNextFrom (has w.groups) 0 (Some n) → waiters_of (record { groups = set empty n true; reasons = w.reasons }) ≡ take 1 (waiters_of w)
+  least_alone w next = ap (map (waiter_in w.reasons)) one_listed ∙ sym (least_waiter w n next few)
 
 -- the certificate of the floor is the first
-pub floor_from : (opened upto : ℕ) (w : WaitingGroups) (o : Option GroupId) → IsNextFrom (has w.groups) 0 (option_map (λ (g : GroupId). g.0) o) → IfSome o (λ g. g.0 < 65536) → (p : ℕ → Bool) (ls : ℕ → List Line) → ((g : ℕ) → g < 65536 → lines_at w g ≡ (if p g then Some (ls g) else None))
-    → map (kept_cert Floor opened upto w.reasons.lists w.reasons.scans) (floor_waiters w.reasons o) ≡ map (cert_for Floor opened upto ls) (take 1 (filter p (range_with_len 0 65536)))
-floor_from opened upto w o next few p ls is =
-    ap (map (kept_cert Floor opened upto w.reasons.lists w.reasons.scans)) (least_waiter w o next few)
-    ∙ (sym (take_one (kept_cert Floor opened upto w.reasons.lists w.reasons.scans) (waiters_of w))
-    ∙ (ap (take 1) (certs_from Floor opened upto w p ls is)
+pub floor_from : (opened upto : ℕ) (before after : WaitingGroups) → waiters_of after ≡ take 1 (waiters_of before) → after.reasons ≡ before.reasons → (p : ℕ → Bool) (ls : ℕ → List Line) → ((g : ℕ) → g < 65536 → lines_at before g ≡ (if p g then Some (ls g) else None))
+    → map (kept_cert Floor opened upto after.reasons.lists after.reasons.scans) (waiters_of after) ≡ map (cert_for Floor opened upto ls) (take 1 (filter p (range_with_len 0 65536)))
+floor_from opened upto before after least same p ls is =
+    ap₂ (λ (reasons : LegReasons) (ws : List Waiter). map (kept_cert Floor opened upto reasons.lists reasons.scans) ws) same least
+    ∙ (sym (take_one (kept_cert Floor opened upto before.reasons.lists before.reasons.scans) (waiters_of before))
+    ∙ (ap (take 1) (certs_from Floor opened upto before p ls is)
     ∙ take_one (cert_for Floor opened upto ls) (filter p (range_with_len 0 65536))))

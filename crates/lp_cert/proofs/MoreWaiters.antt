@@ -87,7 +87,7 @@ pub headless_head : (lists : List (List Reason)) (scans : List ℕ) (h : Head) �
 headless_head lists scans h one none headless =
     subst (λ ls. IsHead ls (length scans) h) (sym one)
     (subst (λ (xs : List ℕ). IsHead ([] ∷ []) (length xs) h) (sym none)
-    (subst (IsHead ([] ∷ []) 0) (sym headless) (record { known = omega arith; fits = tt; continues = tt; some_list = tt; fits_older = tt })))
+    (subst (IsHead ([] ∷ []) 0) (sym headless) (record { known = omega arith; fits = tt; continues = tt; fits_older = tt })))
 
 headless_nothing : (g : GroupId) → head_lines ([] ∷ []) [] g no_head ≡ []
 unfolding lines_of

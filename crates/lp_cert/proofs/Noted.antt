@@ -18,13 +18,13 @@ use Rattle.lp_machine_laws.proofs.Runs.{leg_after-plus}
 use Rattle.lp_machine_laws.proofs.States.{state_sound}
 use Rattle.lp_laws.proofs.WholeRun.{run_sound, start_sound}
 use Rattle.std.proofs.lemmas.List.{map-append}
-use Rattle.lp_machine.specs.Machine.{waits_in, next, turned, answer, refusal_of, state_of}
+use Rattle.lp_machine.specs.Machine.{complete_in, waits_in, next, turned, answer, refusal_of, state_of}
 use Rattle.lp_machine.specs.Table.{Engine, IsWide, state_in}
 use Rattle.lp_transition.specs.Weigh.{Weighed, IsWeighed, HasBlamesAfter, refusal_in}
 use Rattle.lp_transition.specs.Blames.{AreOfWaiting, blame_by}
 use Rattle.lp_machine.proofs.EngineLemmas.{next-turned}
-use Rattle.lp_definitions.proofs.Quantifiers.{some_live-map}
-use Rattle.lp_machine_laws.proofs.Steps.{refusal_is, does}
+use Rattle.lp_definitions.proofs.Quantifiers.{each_live-at, some_live-is, some_live-map}
+use Rattle.lp_machine_laws.proofs.Steps.{complete_is, refusal_is, does}
 use Rattle.lp_tasks.proofs.TableLemmas.{slot_from_live}
 use Rattle.lp_transition.proofs.ScanTakes.{group_fits}
 use Rattle.lp_transition.proofs.Weighing.{refused-as}
@@ -32,18 +32,18 @@ use Rattle.lp_definitions.specs.declared.cert.Claim.TheVariants.{Waiting, Floor}
 use Rattle.lp_definitions.specs.declared.cert.Cert.{Cert}
 use Rattle.lp_definitions.specs.declared.line.Line.{Line}
 use Rattle.lp_definitions.specs.Ends.{LegEnd, end_of}
-use Rattle.lp_cert.specs.declared.open_leg.Completion.{Completion}
+use Rattle.lp_cert.specs.declared.head.Waiter.{Waiter}
 use Rattle.lp_cert.specs.declared.open_leg.OpenLeg.{OpenLeg}
 use Rattle.lp_cert.specs.declared.maker.Ready.{Ready}
 use Rattle.lp_definitions.specs.Certificates.{lines, waiting_groups, waiting_certs, floor_certs, completion, certs_by}
 use Rattle.lp_cert.specs.Ends.{Made, IsMadeWith, Room, ended_legs, is_opening, under_way}
-use Rattle.lp_cert.specs.Invariant.{open_end, floor_waiters, room_of}
+use Rattle.lp_cert.specs.Invariant.{open_end, room_of}
 use Rattle.lp_cert.specs.inside.Invariant.{IfReady, IsReady, leg_at, IsStepped}
 use Rattle.lp_cert.specs.Waiters.{WaitingGroups, kept_cert, waiters_of}
 use Rattle.lp_cert.specs.inside.LegRows.{KeptEnds}
 use Rattle.lp_cert.specs.inside.Waiters.{HasFewGroups, has_off, lines_at}
 use Rattle.lp_laws.proofs.Completions.{past_floor, completion_opened, completion_below, certs_kept, completion_stays, completion_now, incomplete_if}
-use Rattle.lp_cert.proofs.Making.{none_is, cert_for, certs_from, certs_tell, floor_from}
+use Rattle.lp_cert.proofs.Making.{none_is, cert_for, certs_from, certs_tell, floor_from, no_waiters}
 use Rattle.lp_transition.specs.LastScan.{IsLastScanAfter, used_scan}
 use Rattle.lp_cert.specs.Unchanged.{AreHeld, AreUnchangedBy}
 use Rattle.lp_cert.proofs.Held.{held_on, none_held}
@@ -56,6 +56,17 @@ use Rattle.lp_cert.proofs.StepLines.{IsFew, step_lines}
 waits_same : (model : Rules) (leg : Leg) (g : ℕ) → waits_in (state_of model leg) g ≡ waits model leg (first_check model leg) (length leg.events) g
 unfolding shown waits
 waits_same model leg g = some_live-map leg.bounds (leg_task leg (first_check model leg) (length leg.events)) (after model leg (length leg.events)) (λ t y. nat_eq y.group g && not (nat_eq y.level leg.target))
+
+-- nobody, where all is complete
+none_waits : (s : State) → complete_in s ≡ true → (g : ℕ) → waits_in s g ≡ false
+none_waits s complete g = by (waits_in s g) refl
+  where
+    by : (b : Bool) → waits_in s g ≡ b → waits_in s g ≡ false
+    by false out = out
+    by true there =
+        let who = some_live-is s.bounds s.tasks (λ t x. nat_eq x.group g && not (nat_eq x.level s.target)) there in
+        let on = each_live-at s.bounds s.tasks (λ t x. nat_eq x.level s.target) complete who.task who.life who.positive who.within who.live in
+        absurd (false≢true (ap not (sym on) ∙ (and_parts (nat_eq who.life.group g) (not (nat_eq who.life.level s.target)) who.passed).1))
 
 module _ (model : Rules) (leg : Leg) (tasks : leg.bounds.tasks ≡ 65535) where
   abbrev n : ℕ
@@ -78,7 +89,7 @@ abbrev still : OpenLeg → OpenLeg
 still leg = record leg { completed = None }
 
 still_is : (leg : OpenLeg) → leg.completed ≡ None → leg ≡ still leg
-still_is leg e = ap (λ (o : Option Completion). record leg { completed = o }) e
+still_is leg e = ap (λ (o : Option ℕ). record leg { completed = o }) e
 
 none_map : (f : ℕ → ℕ) (o : Option ℕ) → None ≡ option_map f o → o ≡ None
 none_map f None e = refl
@@ -172,36 +183,35 @@ module _ (model : Rules) (lawful : IsLawful model) (e : Engine) (sound : IsSound
     module _ (noted number : ℕ) (old new : OpenLeg) (before later : WaitingGroups) (numbered : number ≡ e.number + 1) (was : open_end noted before old ≡ end_of model leg) (gone : IsStepped model e step number old new before later)
         (suffices : old.completed ≡ None → step.reply.completed ≡ false → TellsOrUnchanged model (state_in e) (lines model leg k) (used_scan model step.event) step.verdicts) where
       -- a complete leg stays as it is
-      complete_stays : (done : Completion) → old.completed ≡ Some done → open_end number later new ≡ end_of model (and_then leg event)
+      complete_stays : (done : ℕ) → old.completed ≡ Some done → open_end number later new ≡ end_of model (and_then leg event)
       complete_stays done is =
           let kept = gone.complete done is in
-          let at : Some done.at ≡ option_map (λ m. leg.number + m) (completion model leg) = sym (ap (option_map (λ (d : Completion). d.at)) is) ∙ ap (λ (l : LegEnd). l.completed) was in
-          let moment = some_map (λ m. leg.number + m) done.at (completion model leg) at in
+          let at : Some done ≡ option_map (λ m. leg.number + m) (completion model leg) = sym is ∙ ap (λ (l : LegEnd). l.completed) was in
+          let moment = some_map (λ m. leg.number + m) done (completion model leg) at in
           let longer = completion_stays model lawful leg leg_sound event moment.0 moment.1 in
           let ended : end_of model leg ≡ end_of model (and_then leg event) =
           ap₂ (λ (o : Option ℕ) (certs : List Cert). let l : LegEnd = record { opened = leg.number; target = record { 0 = leg.target }; completed = option_map (λ m. leg.number + m) o; certs = certs } in l)
           (moment.1 ∙ sym longer)
           (ap (certs_by model leg) moment.1 ∙ (sym (certs_kept model leg event moment.0 (completion_below model leg moment.0 moment.1)) ∙ ap (certs_by model (and_then leg event)) (sym longer))) in
           let same : open_end number before old ≡ open_end noted before old =
-          ap (λ (o : Option Completion). open_end number before (record old { completed = o })) is ∙ sym (ap (λ (o : Option Completion). open_end noted before (record old { completed = o })) is) in
+          ap (λ (o : Option ℕ). open_end number before (record old { completed = o })) is ∙ sym (ap (λ (o : Option ℕ). open_end noted before (record old { completed = o })) is) in
           ap₂ (λ (w : WaitingGroups) (l : OpenLeg). open_end number w l) kept.1 kept.0 ∙ (same ∙ (was ∙ ended))
 
       module _ (unended : old.completed ≡ None) where
         completes_now : step.reply.completed ≡ true → open_end number later new ≡ end_of model (and_then leg event)
         completes_now now =
-            let done = (gone.completes unended now).1 in
-            let floor = done.floor in
+            let done = gone.completes unended now in
             let complete : is_complete_now model (and_then leg event) ≡ true = sym (completes_is (incomplete_if model lawful leg leg_sound (no_moment noted old before was unended))) ∙ now in
             let moment : completion model (and_then leg event) ≡ Some (suc k) = completion_now model lawful leg leg_sound event (no_moment noted old before was unended) true complete in
             let at : number ≡ leg.number + suc k = omega (arith, numbered, number_is) in
             let upto : number - 1 ≡ leg.number + k = omega (arith, at) in
-            let certs : map (kept_cert Floor old.opened (number - 1) before.reasons.lists before.reasons.scans) (floor_waiters before.reasons floor) ≡ certs_by model (and_then leg event) (Some (suc k)) =
-            ap₂ (λ a b. map (kept_cert Floor a b before.reasons.lists before.reasons.scans) (floor_waiters before.reasons floor)) (opened_same noted old before was unended) upto
-            ∙ (floor_from leg.number (leg.number + k) before floor done.least done.few (waits_in (state_in e)) (lines model leg k) (lines_before noted old before was unended)
+            let certs : map (kept_cert Floor old.opened (number - 1) later.reasons.lists later.reasons.scans) (waiters_of later) ≡ certs_by model (and_then leg event) (Some (suc k)) =
+            ap₂ (λ a b. map (kept_cert Floor a b later.reasons.lists later.reasons.scans) (waiters_of later)) (opened_same noted old before was unended) upto
+            ∙ (floor_from leg.number (leg.number + k) before later done.least done.reasons (waits_in (state_in e)) (lines model leg k) (lines_before noted old before was unended)
             ∙ (ap (λ (s : State). map (cert_for Floor leg.number (leg.number + k) (lines model leg k)) (take 1 (filter (waits_in s) (range_with_len 0 65536)))) there
             ∙ (sym (floor_are model leg tasks_are) ∙ sym (past_floor model leg event k (omega arith))))) in
-            ap₂ (λ (w : WaitingGroups) (l : OpenLeg). open_end number w l) (gone.completes unended now).0 done.now
-            ∙ (ap₂ (λ (a b : ℕ). let l : LegEnd = record { opened = a; target = record { 0 = b }; completed = Some number; certs = map (kept_cert Floor old.opened (number - 1) before.reasons.lists before.reasons.scans) (floor_waiters before.reasons floor) } in l) (opened_same noted old before was unended) (target_same noted old before was unended)
+            ap (open_end number later) done.now
+            ∙ (ap₂ (λ (a b : ℕ). let l : LegEnd = record { opened = a; target = record { 0 = b }; completed = Some number; certs = map (kept_cert Floor old.opened (number - 1) later.reasons.lists later.reasons.scans) (waiters_of later) } in l) (opened_same noted old before was unended) (target_same noted old before was unended)
             ∙ ap₂ (λ (o : Option ℕ) (cs : List Cert). let l : LegEnd = record { opened = leg.number; target = record { 0 = leg.target }; completed = o; certs = cs } in l)
             (ap {A = ℕ} {B = Option ℕ} Some at ∙ ap (option_map (λ m. leg.number + m)) (sym moment))
             (certs ∙ ap (certs_by model (and_then leg event)) (sym moment)))
@@ -234,7 +244,7 @@ module _ (model : Rules) (lawful : IsLawful model) (e : Engine) (sound : IsSound
       pub went_on : open_end number later new ≡ end_of model (and_then leg event)
       went_on = by old.completed refl
         where
-          by : (o : Option Completion) → old.completed ≡ o → open_end number later new ≡ end_of model (and_then leg event)
+          by : (o : Option ℕ) → old.completed ≡ o → open_end number later new ≡ end_of model (and_then leg event)
           by (Some done) is = complete_stays done is
           by None is =
               ⊎_elim
@@ -301,8 +311,13 @@ module _ (model : Rules) (lawful : IsLawful model) (e : Engine) (sound : IsSound
         by : (b : Bool) → is_complete_now model (opened model leg event) ≡ b → open_end number later (leg_at number (new_target (state_in e) event) step.reply.completed) ≡ end_of model (opened model leg event)
         by true unchanged =
             let moment : completion model (opened model leg event) ≡ Some 0 = completion_opened model leg event ∙ cond-true (is_complete_now model (opened model leg event)) (Some 0) None unchanged in
+            let nobody : waiters_of later ≡ [] = no_waiters later (λ g.
+            is g
+            ∙ (ap {A = State} {B = Option (List Line)} (λ s. if waits_in s g then Some [] else None) turned_is
+            ∙ ap {A = Bool} {B = Option (List Line)} (λ b. if b then Some [] else None) (none_waits (state_of model (opened model leg event)) (complete_is model (opened model leg event) ∙ unchanged) g))) in
             ap (λ b. open_end number later (leg_at number (new_target (state_in e) event) b)) (completed_is ∙ unchanged)
-            ∙ (ap₂ (λ a t. let l : LegEnd = record { opened = a; target = record { 0 = t }; completed = Some number; certs = [] } in l) at target
+            ∙ (ap (λ (ws : List Waiter). let l : LegEnd = record { opened = number; target = record { 0 = new_target (state_in e) event }; completed = Some number; certs = map (kept_cert Floor number (number - 1) later.reasons.lists later.reasons.scans) ws } in l) nobody
+            ∙ ap₂ (λ a t. let l : LegEnd = record { opened = a; target = record { 0 = t }; completed = Some number; certs = [] } in l) at target
             ∙ ap₂ (λ (o : Option ℕ) (cs : List Cert). let l : LegEnd = record { opened = leg.number + suc k; target = record { 0 = (opened model leg event).target }; completed = o; certs = cs } in l)
             (ap {A = ℕ} {B = Option ℕ} Some (omega (arith, at)) ∙ ap (option_map (λ m. (leg.number + suc k) + m)) (sym moment))
             (ap (certs_by model (opened model leg event)) (sym moment)))
@@ -490,8 +505,8 @@ module _ (model : Rules) (lawful : IsLawful model) (run : Run) (e : Engine) (sta
 -- ---- What the maker needs of what it keeps
 
 -- there is room for the event
-pub ready_for : (noted : ℕ) (current : Option OpenLeg) (w : WaitingGroups) (room : KeptEnds) (closing : Option LegEnd) (o : Option Ready) (ready : Ready) → IfReady noted current w room closing o → o ≡ Some ready → IsReady noted current w room closing ready
-ready_for noted current w room closing o ready h is = subst (IfReady noted current w room closing) is h
+pub ready_for : (noted : ℕ) (current : Option OpenLeg) (w : WaitingGroups) (ends : KeptEnds) (o : Option Ready) (ready : Ready) → IfReady noted current w ends o → o ≡ Some ready → IsReady noted current w ends ready
+ready_for noted current w ends o ready h is = subst (IfReady noted current w ends) is h
 
 -- it is what was asked for, and opens a leg or doesn't
 pub room_is : (o : Option Ready) (ready : Ready) (room : Room) → o ≡ Some ready → option_map room_of o ≡ Some room → room_of ready ≡ room

@@ -11,7 +11,6 @@ use Rattle.lp_machine.specs.Steps.{StandsIn}
 use Rattle.lp_machine.specs.Table.{Engine, IsWide, state_in}
 use Rattle.lp_transition.specs.Blames.{AreOfWaiting}
 use Rattle.lp_transition.specs.Weigh.{HasBlamesAfter}
-use Rattle.lp_cert.specs.declared.open_leg.Completion.{Completion}
 use Rattle.lp_cert.specs.declared.open_leg.OpenLeg.{OpenLeg}
 use Rattle.lp_cert.specs.Ends.{Made, IsMadeWith, is_opening}
 use Rattle.lp_cert.specs.Invariant.{open_end}
@@ -25,7 +24,7 @@ pub open_leg : (current : Option OpenLeg) → is_settled current ≡ false → (
 open_leg None settled = absurd (false≢true (sym settled))
 open_leg (Some leg) settled = (leg, refl, not_some leg.completed settled)
 
-end_stays : (noted number : ℕ) (w : WaitingGroups) (leg : OpenLeg) (done : Option Completion) → is_some done ≡ true → open_end number w (record leg { completed = done }) ≡ open_end noted w (record leg { completed = done })
+end_stays : (noted number : ℕ) (w : WaitingGroups) (leg : OpenLeg) (done : Option ℕ) → is_some done ≡ true → open_end number w (record leg { completed = done }) ≡ open_end noted w (record leg { completed = done })
 end_stays noted number w leg None settled = absurd (false≢true settled)
 end_stays noted number w leg (Some done) settled = refl
 

@@ -8,20 +8,19 @@ use Rattle.lp_machine.specs.Steps.{StandsIn}
 use Rattle.lp_machine.specs.Table.{Engine, state_in}
 use Rattle.lp_definitions.specs.declared.cert.Claim.TheVariants.{Waiting}
 use Rattle.lp_definitions.specs.Ends.{LegEnd, end_of}
-use Rattle.lp_cert.specs.declared.open_leg.Completion.{Completion}
 use Rattle.lp_cert.specs.declared.open_leg.OpenLeg.{OpenLeg}
 use Rattle.lp_definitions.specs.Certificates.{certs_by, completion, lines, waiting_groups}
 use Rattle.lp_cert.specs.Ends.{Made, IsMadeOf, IsMadeWith, cert_upto, end_upto, ended_legs, made_upto, under_way}
-use Rattle.lp_cert.specs.Invariant.{claim_of, end_waiters, open_end, upto_of}
-use Rattle.lp_cert.specs.Waiters.{WaitingGroups, kept_cert}
+use Rattle.lp_cert.specs.Invariant.{claim_of, open_end, upto_of}
+use Rattle.lp_cert.specs.Waiters.{WaitingGroups, kept_cert, waiters_of}
 use Rattle.lp_cert.proofs.Making.{cert_for, map_twice}
 
 -- ---- Of the leg under way as it is kept
 
-end_by : (upto noted : ℕ) (w : WaitingGroups) (leg : OpenLeg) (done : Option Completion) → end_upto upto (open_end noted w (record leg { completed = done })) ≡ open_end upto w (record leg { completed = done })
+end_by : (upto noted : ℕ) (w : WaitingGroups) (leg : OpenLeg) (done : Option ℕ) → end_upto upto (open_end noted w (record leg { completed = done })) ≡ open_end upto w (record leg { completed = done })
 end_by upto noted w leg None =
     ap (λ certs. let end : LegEnd = record { opened = leg.opened; target = leg.target; completed = None; certs = certs } in end)
-    (map_twice (cert_upto upto) (kept_cert (claim_of None) leg.opened (upto_of noted None) w.reasons.lists w.reasons.scans) (end_waiters None w))
+    (map_twice (cert_upto upto) (kept_cert (claim_of None) leg.opened (upto_of noted None) w.reasons.lists w.reasons.scans) (waiters_of w))
 end_by upto noted w leg (Some done) = refl
 
 pub open_upto : (upto noted : ℕ) (w : WaitingGroups) (current : Option OpenLeg) → option_map (end_upto upto) (option_map (open_end noted w) current) ≡ option_map (open_end upto w) current

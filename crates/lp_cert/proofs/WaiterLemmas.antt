@@ -1,5 +1,5 @@
 -- The groups that wait, as the verdicts of a scan are noted one by one.
-use Rattle.std.proofs.Common.{◌≡◌, ◌≢◌, ℕ, ◌+◌, ◌<◌, ◌≤◌, inl, inr, ⊎_elim, Bool, true, false, List, [], ◌∷◌, ◌++◌, length, map, set, get_or, not, ◌&&◌, Option, Some, None, if◌then◌else◌, nat_eq, refl, sym, ap, ap₂, subst, ◌∙◌, arith}
+use Rattle.std.proofs.Common.{◌≡◌, ◌≢◌, ℕ, ◌+◌, ◌<◌, ◌≤◌, Bool, true, false, List, [], ◌∷◌, ◌++◌, length, map, set, get_or, not, ◌&&◌, Option, Some, None, if◌then◌else◌, nat_eq, refl, sym, ap, ap₂, subst, ◌∙◌, arith}
 use Rattle.std.specs.List.{AllByRecursion}
 use Rattle.std.specs.Option.{option_map}
 use Rattle.std.proofs.lemmas.Bool.{false≢true, cond-true, cond-false, eqb-true, eqb-false}
@@ -14,11 +14,10 @@ use Rattle.lp_machine.specs.Table.{Table, slot, fate_at, leg_tasks}
 use Rattle.lp_definitions.specs.declared.line.Line.{Line}
 use Rattle.lp_cert.specs.declared.reason.Reason.{Reason}
 use Rattle.lp_cert.specs.declared.head.Head.{Head}
-use Rattle.lp_cert.specs.declared.ongoing.Ongoing.{Ongoing}
-use Rattle.lp_cert.specs.declared.ongoing.Ongoing.TheVariants.{Nothing, Hold, Busy}
+use Rattle.lp_cert.specs.declared.ongoing.Ongoing.TheVariants.{Nothing}
 use Rattle.lp_definitions.specs.Certificates.{group_id, after_refusal}
 use Rattle.lp_cert.specs.Heads.{ongoing_reasons, head_lines, lines_of}
-use Rattle.lp_cert.specs.inside.Heads.{FitsIn, FitsOlder, IsKnown, IsHead, Keeps, HasFrameAs, IsRefusedBy}
+use Rattle.lp_cert.specs.inside.Heads.{FitsIn, FitsOlder, IsHead, Keeps, HasFrameAs, IsRefusedBy}
 use Rattle.lp_transition.specs.Blames.{has_frame_in}
 use Rattle.lp_transition.specs.Scan.{member_verdict, first_refused}
 use Rattle.lp_cert.specs.Waiters.{LegReasons, head_of}
@@ -33,11 +32,6 @@ keeps_trans a b c ab bc = record {
   same = λ i h. bc.same i (omega (arith, ab.no_less)) ∙ ab.same i h;
 }
 
-known_kept : (old new scans : ℕ) (o : Ongoing) → old ≤ new → IsKnown old scans o → IsKnown new scans o
-known_kept old new scans Nothing more h = tt
-known_kept old new scans (Hold task serial from last) more h = ⊎_elim inl (λ (some : 1 < old). inr (omega (arith, some, more))) h
-known_kept old new scans (Busy task first) more h = ⊎_elim inl (λ (some : 1 < old). inr (omega (arith, some, more))) h
-
 pub head_kept : (old new : List (List Reason)) (scans : ℕ) (h : Head) → Keeps old new → IsHead old scans h → IsHead new scans h
 head_kept old new scans h kept is =
     let e = kept.same h.older.0 is.known in
@@ -46,7 +40,6 @@ head_kept old new scans h kept is =
       fits = subst (AllByRecursion (FitsIn scans)) (sym e) is.fits;
       continues = is.continues;
       fits_older = subst (FitsOlder scans h.ongoing) (sym e) is.fits_older;
-      some_list = known_kept (length old) (length new) scans h.ongoing kept.no_less is.some_list;
     }
 
 pub lines_kept : (old new : List (List Reason)) (scans : List ℕ) (g : GroupId) (h : Head) → Keeps old new → h.older.0 < length old → head_lines new scans g h ≡ head_lines old scans g h

@@ -1,36 +1,23 @@
 -- The leg under way as it is kept.
-use Rattle.std.specs.Prelude.{ℕ, ◌-◌, List, [], ◌∷◌, map, Option, Some, None}
-use Rattle.std.specs.Option.{option_map}
-use Rattle.lp_stack.specs.declared.number.GroupId.{GroupId}
+use Rattle.std.specs.Prelude.{ℕ, ◌-◌, map, Option, Some, None}
 use Rattle.lp_definitions.specs.declared.cert.Claim.{Claim}
 use Rattle.lp_definitions.specs.declared.cert.Claim.TheVariants.{Waiting, Floor}
-use Rattle.lp_cert.specs.declared.head.Waiter.{Waiter}
 use Rattle.lp_definitions.specs.Ends.{LegEnd}
-use Rattle.lp_cert.specs.declared.open_leg.Completion.{Completion}
 use Rattle.lp_cert.specs.declared.open_leg.OpenLeg.{OpenLeg}
 use Rattle.lp_cert.specs.declared.maker.Ready.{Ready}
 use Rattle.lp_cert.specs.Ends.{Room}
-use Rattle.lp_cert.specs.Waiters.{LegReasons, WaitingGroups, kept_cert, waiter_in, waiters_of}
+use Rattle.lp_cert.specs.Waiters.{WaitingGroups, kept_cert, waiters_of}
 
 -- ---- The certificates of a leg as it stands
 
-abbrev pub claim_of : Option Completion → Claim
+abbrev pub claim_of : Option ℕ → Claim
 claim_of None = Waiting
-claim_of (Some done) = Floor
+claim_of (Some at) = Floor
 
 -- up to the last event noted, or the last before the leg was complete
-abbrev pub upto_of : ℕ → Option Completion → ℕ
+abbrev pub upto_of : ℕ → Option ℕ → ℕ
 upto_of noted None = noted
-upto_of noted (Some done) = done.at - 1
-
-abbrev pub floor_waiters : LegReasons → Option GroupId → List Waiter
-floor_waiters reasons None = []
-floor_waiters reasons (Some group) = waiter_in reasons group.0 ∷ []
-
--- the groups that have a certificate
-abbrev pub end_waiters : Option Completion → WaitingGroups → List Waiter
-end_waiters None waiters = waiters_of waiters
-end_waiters (Some done) waiters = floor_waiters waiters.reasons done.floor
+upto_of noted (Some at) = at - 1
 
 -- the end of the leg, if it ended after so many events
 abbrev pub open_end : ℕ → WaitingGroups → OpenLeg → LegEnd
@@ -38,10 +25,10 @@ open_end noted waiters leg =
     record {
       opened = leg.opened;
       target = leg.target;
-      completed = option_map (λ done. done.at) leg.completed;
+      completed = leg.completed;
       certs =
           map (kept_cert (claim_of leg.completed) leg.opened (upto_of noted leg.completed) waiters.reasons.lists waiters.reasons.scans)
-          (end_waiters leg.completed waiters);
+          (waiters_of waiters);
     }
 
 -- ---- What is kept

@@ -1,5 +1,5 @@
 //! Lists of reasons that share their older parts.
-ghost use Rattle.std.specs.Prelude.{◌≡◌, ◌+◌, ◌<◌, ◌≤◌, [], ◌∷◌, ◌++◌, Some, false, drop, length, slice_get, slice_index_or, IfNone, IfOk, IfSome, IsTrue, OnOk};
+ghost use Rattle.std.specs.Prelude.{◌≡◌, ◌+◌, ◌<◌, ◌≤◌, [], ◌∷◌, ◌++◌, Some, drop, length, slice_get, slice_index_or, IfNone, IfOk, IfSome, OnOk};
 ghost use Rattle.lp_cert.specs.inside.Chains.{IsEmptyAt, IsEntryAt, IsLineCount, IsTail, line_count};
 ghost use Rattle.lp_cert.specs.inside.Parts.{AreWithout};
 
@@ -71,14 +71,6 @@ impl Chains {
     {
         self.entries.clear();
         self.has_births = false;
-    }
-
-    /// Whether there is the empty list alone.
-    pub(crate) fn is_empty(&self) -> bool
-        ensures alone { IsTrue result → self.now.lists ≡ [] ∷ [] }
-        ensures others { result ≡ false → 1 < length self.now.lists }
-    {
-        self.entries.is_empty()
     }
 
     /// Makes room for so many more lists; AllocError where an allocation failed or there would be too many to be told.

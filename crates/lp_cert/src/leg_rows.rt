@@ -1,9 +1,10 @@
 //! The ends of legs, in as little memory as a run with as many legs as events wants.
-ghost use Rattle.std.specs.Prelude.{◌≡◌, ◌+◌, ◌<◌, ◌≤◌, ◌++◌, ◌∷◌, [], drop, false, length, option_to_list, slice_get, take, true, IfOk, OnErr, OnOk, Some};
+ghost use Rattle.std.specs.Prelude.{◌≡◌, ◌+◌, ◌<◌, ◌≤◌, ◌++◌, [], drop, false, length, option_to_list, slice_get, take, true, IfOk, OnOk, Some};
+ghost use Rattle.std.specs.Option.{option_map};
 ghost use Rattle.lp_cert.specs.Ends.{end_in};
 ghost use Rattle.lp_cert.specs.Invariant.{open_end};
-ghost use Rattle.lp_cert.specs.inside.Invariant.{HasFloor, IsBareLeg};
-ghost use Rattle.lp_cert.specs.inside.LegRows.{HasRoom, bare_end, is_other};
+ghost use Rattle.lp_cert.specs.inside.LegRows.{bare_end, is_other};
+ghost use Rattle.lp_cert.specs.inside.Waiters.{AreBare};
 
 use crate::cert_head::CommonHead;
 use crate::cert_list::CertListRef;
@@ -50,23 +51,26 @@ pub(crate) struct LegRow {
 /// Ends of legs. Nearly all certificates of short legs have no line: of these the groups are
 /// enough, and their legs take 16 bytes and 2 for each of their groups.
 ///
-/// Contracts see the ends and the room for more.
+/// Contracts see the ends, and the one that is ready to be put after them.
 #[derive(Drop)]
 pub(crate) struct LegRows {
     rows: Vec<LegRow>,
     groups: Vec<GroupId>,
     others: Vec<LegEnd>,
+    /// The row of an end that is made before its leg is over, and for which there is room.
+    closing: Option<LegRow>,
 }
 
 impl Model for LegRows {
-    ghost use Rattle.std.specs.Prelude.{◌-◌, All, length, map, vec_len, vec_capacity};
-    ghost use Rattle.lp_cert.specs.inside.LegRows.{IsFitting, KeptEnds, row_end};
+    ghost use Rattle.std.specs.Prelude.{◌-◌, length, map, vec_len, vec_capacity};
+    ghost use Rattle.std.specs.Option.{option_map};
+    ghost use Rattle.lp_cert.specs.inside.LegRows.{AreFitting, KeptEnds, row_end};
 
     ghost Value = { KeptEnds };
 
-    ghost view = { λ l. record { ends = map (row_end l.groups.items l.others.items) l.rows.items; row_room = vec_capacity l.rows - vec_len l.rows; other_room = vec_capacity l.others - vec_len l.others; places = 4294967296 - vec_len l.others } };
+    ghost view = { λ l. record { ends = map (row_end l.groups.items l.others.items) l.rows.items; closing = option_map (row_end l.groups.items l.others.items) l.closing } };
 
-    ghost invariant = { λ l. All (IsFitting (length l.groups.items) (length l.others.items)) l.rows.items };
+    ghost invariant = { λ l. AreFitting (length l.groups.items) (length l.others.items) (vec_capacity l.rows - vec_len l.rows) l.rows.items l.closing };
 }
 
 impl LegRows {
@@ -78,6 +82,7 @@ impl LegRows {
             rows: Vec::new(alloc),
             groups: Vec::new(alloc),
             others: Vec::new(alloc),
+            closing: None,
         }
     }
 
@@ -88,68 +93,76 @@ impl LegRows {
         self.rows.len()
     }
 
-    /// Makes room for an end that is kept whole; AllocError where an allocation failed.
-    pub(crate) fn reserve(&mut self) -> Result<(), AllocError>
-        ensures ends { self.new.ends ≡ self.old.ends }
-        ensures room { OnOk result (HasRoom self.new) }
-    {
-        if self.others.len() > MOST_PLACES {
-            return Err(AllocError);
-        }
-        self.rows.reserve(1)?;
-        self.others.reserve(1)
-    }
-
-    /// One end more, which is kept whole, and for which there is room. Never allocates.
-    pub(crate) fn push_reserved(&mut self, end: LegEnd)
-        requires { HasRoom self.old }
-        ensures { self.new.ends ≡ self.old.ends ++ end ∷ [] }
-    {
-        let row = other_row(self.others.len() as u32);
-        self.others.push_reserved(end);
-        self.rows.push_reserved(row);
-    }
-
-    /// The end of a leg more, as it stands after so many events; AllocError where an allocation failed, and then
-    /// the ends are as they were.
-    pub(crate) fn push_leg(
+    /// Makes the end of the leg under way, if there is one, as it stands after so many events, so that `push_closed` needs no
+    /// memory. AllocError where an allocation failed.
+    pub(crate) fn close(
         &mut self,
         alloc: Global,
-        leg: OpenLeg,
+        current: Option<OpenLeg>,
         noted: u32,
         waiters: &Waiters,
     ) -> Result<(), AllocError>
-        requires { HasFloor waiters.now leg.completed }
-        ensures ends { OnOk result (self.new.ends ≡ self.old.ends ++ open_end noted waiters.now leg ∷ []) }
-        ensures left { OnErr result (self.new.ends ≡ self.old.ends) }
+        ensures ends { self.new.ends ≡ self.old.ends }
+        ensures closing { OnOk result (self.new.closing ≡ option_map (open_end noted waiters.now) current) }
     {
-        if leg.is_bare(waiters) {
-            if self.push_bare(leg, noted, waiters)? {
+        let Some(leg) = current else {
+            self.closing = None;
+            return Ok(());
+        };
+        if waiters.are_bare() {
+            if self.close_bare(leg, noted, waiters)? {
                 return Ok(());
             }
         }
         let certs = leg.certs(alloc, noted, waiters)?;
-        self.reserve()?;
-        self.push_reserved(leg.end(certs));
-        Ok(())
+        self.close_whole(leg.end(certs))
     }
 
-    /// The same, where no certificate has a line and a row can tell all. Says whether it can: if not, the ends
-    /// are as they were.
-    fn push_bare(&mut self, leg: OpenLeg, noted: u32, waiters: &Waiters) -> Result<bool, AllocError>
-        requires { IsBareLeg waiters.now leg }
-        ensures ends { IfOk result (λ told. told ≡ true → self.new.ends ≡ self.old.ends ++ open_end noted waiters.now leg ∷ []) }
-        ensures whole { IfOk result (λ told. told ≡ false → self.new.ends ≡ self.old.ends) }
-        ensures left { OnErr result (self.new.ends ≡ self.old.ends) }
+    /// The same, where no certificate has a line and a row can tell all. Says whether it can.
+    fn close_bare(
+        &mut self,
+        leg: OpenLeg,
+        noted: u32,
+        waiters: &Waiters,
+    ) -> Result<bool, AllocError>
+        requires { AreBare waiters.now }
+        ensures ends { self.new.ends ≡ self.old.ends }
+        ensures closing { IfOk result (λ told. told ≡ true → self.new.closing ≡ Some (open_end noted waiters.now leg)) }
     {
         let start = self.groups.len();
-        leg.append_groups(waiters, &mut self.groups)?;
+        waiters.append_to(&mut self.groups)?;
         let count = self.groups.len() - start;
         if start > MOST_PLACES || count > MOST_GROUPS {
             return Ok(false);
         }
-        self.rows.push(leg.row(noted, start as u32, count as u16))?;
+        self.rows.reserve(1)?;
+        self.closing = Some(leg.row(noted, start as u32, count as u16));
         Ok(true)
+    }
+
+    /// The same of an end that is kept whole.
+    pub(crate) fn close_whole(&mut self, end: LegEnd) -> Result<(), AllocError>
+        ensures ends { self.new.ends ≡ self.old.ends }
+        ensures closing { OnOk result (self.new.closing ≡ Some end) }
+    {
+        let place = self.others.len();
+        if place > MOST_PLACES {
+            return Err(AllocError);
+        }
+        self.rows.reserve(1)?;
+        self.others.push(end)?;
+        self.closing = Some(other_row(place as u32));
+        Ok(())
+    }
+
+    /// The end that was made is the last one now, if one was. Never allocates.
+    pub(crate) fn push_closed(&mut self)
+        ensures { self.new.ends ≡ self.old.ends ++ option_to_list self.old.closing }
+    {
+        let Some(row) = self.closing.take() else {
+            return;
+        };
+        self.rows.push_reserved(row);
     }
 
     /// The end at a place, from 0, borrowed.

@@ -1,14 +1,12 @@
 //! The maker of certificates.
-ghost use Rattle.std.specs.Prelude.{◌≡◌, suc, ◌<◌, [], ◌∷◌, ◌++◌, true, false, Some, None, IsTrue, ◌≤◌, length, option_to_list, is_some, IfOk, IfSome, OnErr, OnOk};
+ghost use Rattle.std.specs.Prelude.{◌≡◌, suc, ◌<◌, ◌++◌, true, false, Some, None, ◌≤◌, length, option_to_list, is_some, IfOk, OnErr, OnOk};
 ghost use Rattle.lp_definitions.specs.Run.{new_target};
 ghost use Rattle.lp_definitions.specs.declared.event.Event.{Event};
 ghost use Rattle.lp_machine.specs.Table.{state_in};
 ghost use Rattle.lp_transition.specs.LastScan.{used_scan};
 ghost use Rattle.lp_transition.specs.Weigh.{IsWeighed};
 ghost use Rattle.lp_cert.specs.Ends.{IsFresh, IsMadeFurther, ends_left, floor_in, is_complete_in, is_opening, room_for, waiting_in};
-ghost use Rattle.lp_cert.specs.Invariant.{open_end};
-ghost use Rattle.lp_cert.specs.inside.Invariant.{HasFloor, IsStepped, leg_at, waiting_cert};
-ghost use Rattle.lp_cert.specs.inside.LegRows.{HasRoom};
+ghost use Rattle.lp_cert.specs.inside.Invariant.{IsStepped, leg_at, waiting_cert};
 ghost use Rattle.lp_cert.specs.inside.OwnEffects.{HasOwnRoom};
 ghost use Rattle.lp_cert.specs.inside.Waiters.{lines_at};
 ghost use Rattle.std.specs.Option.{option_map};
@@ -54,9 +52,6 @@ pub struct Maker {
     /// The number of the last event noted.
     noted: u32,
     ready: Option<Ready>,
-    /// The end of the leg under way, if there is one, where `ready` opens another. It stands beside `ready`, since few events
-    /// need it.
-    closing: Option<LegEnd>,
 }
 
 /// By hand, so that the proof of who owns one lets go of it in one step, not field by field.
@@ -68,7 +63,6 @@ impl Drop for Maker {
             waiters: _,
             noted: _,
             ready: _,
-            closing: _,
         } = self;
     }
 }
@@ -77,13 +71,13 @@ impl Model for Maker {
     ghost use Rattle.std.specs.Option.{option_map};
     ghost use Rattle.lp_cert.specs.Ends.{Made};
     ghost use Rattle.lp_cert.specs.Invariant.{open_end, room_of};
-    ghost use Rattle.lp_cert.specs.inside.Invariant.{IsMaker};
+    ghost use Rattle.lp_cert.specs.inside.Invariant.{IfReady};
 
     ghost Value = { Made };
 
     ghost view = { λ m. record { ended = m.ended.ends; current = option_map (open_end m.noted m.waiters) m.current; ready = option_map room_of m.ready } };
 
-    ghost invariant = { λ m. IsMaker m.noted m.current m.waiters m.ended m.closing m.ready };
+    ghost invariant = { λ m. IfReady m.noted m.current m.waiters m.ended m.ready };
 }
 
 impl Maker {
@@ -97,7 +91,6 @@ impl Maker {
             current: None,
             noted: 0,
             ready: None,
-            closing: None,
         })
     }
 
@@ -123,8 +116,8 @@ impl Maker {
             verdicts,
         };
         if opens {
-            self.closing = self.current(alloc)?;
-            self.ended.reserve()?;
+            self.ended
+                .close(alloc, self.current, self.noted, &self.waiters)?;
             self.ready = Some(ready);
             return Ok(());
         }
@@ -153,7 +146,7 @@ impl Maker {
         }
         let next = opened(core, step, number);
         self.waiters.open(core, next.target);
-        push_end(&mut self.ended, self.closing.take());
+        self.ended.push_closed();
         self.current = Some(next);
     }
 
@@ -224,12 +217,11 @@ impl Maker {
             waiters,
             noted,
             ready: _,
-            closing: _,
         } = self;
         if let Some(leg) = current {
             let certs = leg.into_certs(alloc, noted, waiters)?;
-            ended.reserve()?;
-            ended.push_reserved(leg.end(certs));
+            ended.close_whole(leg.end(certs))?;
+            ended.push_closed();
         }
         Ok(LegList { rows: ended })
     }
@@ -263,12 +255,10 @@ fn note_leg<M: Consistency>(
 )
     requires weighed { IsWeighed M.rules core.now step.now }
     requires number { number ≡ suc core.now.number }
-    requires floor { HasFloor waiters.old leg.old.completed }
     requires own_room { HasOwnRoom step.now.event waiters.old }
     requires room { length step.now.verdicts ≤ waiters.old.reasons.room }
     requires scan_room { 0 < waiters.old.reasons.scan_room }
-    ensures stepped { IsStepped M.rules core.now step.now number leg.old leg.new waiters.old waiters.new }
-    ensures floor { HasFloor waiters.new leg.new.completed }
+    ensures { IsStepped M.rules core.now step.now number leg.old leg.new waiters.old waiters.new }
 {
     if used_scan(&core.model(), step.event()).is_none() {
         let effect = waiters.own_effect(core, step.event());
@@ -292,16 +282,6 @@ fn used_scan<M: Consistency>(model: &M, event: Event) -> Option<CheckKind>
         _ => return None,
     };
     if model.uses(kind) { Some(kind) } else { None }
-}
-
-/// The end of the leg that was under way more, if one was. Never allocates.
-fn push_end(ended: &mut LegRows, end: Option<LegEnd>)
-    requires { HasRoom ended.old }
-    ensures { ended.new.ends ≡ ended.old.ends ++ option_to_list end }
-{
-    if let Some(end) = end {
-        ended.push_reserved(end);
-    }
 }
 
 /// The leg that an event opens.

@@ -1,7 +1,6 @@
 //! The reasons of each group in a leg.
 ghost use Rattle.std.specs.Prelude.{◌≡◌, ◌≢◌, ◌+◌, ◌<◌, ◌≤◌, ◌↔◌, ℕ, List, [], ◌∷◌, ◌++◌, length, reverse, slice_index_or, IfOk, IsTrue, OnOk};
-ghost use Rattle.lp_cert.specs.inside.Heads.{IsUsed, IsRefusedBy, IsRefusedAlone, IsBornBy};
-ghost use Rattle.lp_definitions.specs.Certificates.{group_id};
+ghost use Rattle.lp_cert.specs.inside.Heads.{IsUsed, IsRefusedBy, IsRefusedAlone, IsBornBy, Keeps, busy_reasons, continues_after, reason_begun_by};
 ghost use Rattle.lp_cert.specs.Heads.{head_lines};
 ghost use Rattle.lp_cert.specs.Waiters.{no_head, head_of, waiter_in};
 ghost use Rattle.lp_cert.specs.inside.Waiters.{lines_in, StandsAt};
@@ -9,7 +8,10 @@ ghost use Rattle.lp_cert.specs.inside.Waiters.{lines_in, StandsAt};
 use crate::cert_lines::CertLines;
 use crate::chains::{ChainId, Chains};
 use crate::head::{Head, OwnFork, Refused, Waiter};
-use crate::ongoing::Ongoing;
+use crate::ongoing::{Checked, Ongoing};
+use crate::reason::Reason;
+use lp_definitions::Line;
+use lp_model::Blame;
 use lp_numbers::NumberTable;
 use lp_stack::GroupId;
 use std::alloc::{AllocError, Global};
@@ -106,14 +108,6 @@ impl Reasons {
         self.head(group).is_bare(&self.chains)
     }
 
-    /// Whether no scan and no birth was noted.
-    pub(crate) fn is_empty(&self) -> bool
-        ensures lists { IsTrue result → self.now.lists ≡ [] ∷ [] }
-        ensures scans { IsTrue result → self.now.scans ≡ [] }
-    {
-        self.chains.is_empty() && self.scans.is_empty()
-    }
-
     /// The lines of a group, the oldest first. Never allocates.
     pub(crate) fn lines(&self, group: GroupId) -> CertLines<'_>
         requires { StandsAt (length self.now.scans) self.now group.0 }
@@ -148,11 +142,19 @@ impl Reasons {
         ensures scan_room { self.new.scan_room ≡ self.old.scan_room }
     {
         let head = self.head(group);
-        let next = head.refuse(&mut self.chains, self.scans.as_slice(), group, refused);
+        if continues(head.ongoing, refused) {
+            return;
+        }
+        let scans = self.scans.as_slice();
+        let next = Head {
+            ongoing: reason_begun(scans, refused),
+            older: head.close(&mut self.chains, scans, group),
+        };
         self.heads.put(group.0, next, NO_REASON);
     }
 
-    /// The own check of a group's only member has refused it. Never allocates.
+    /// The own check of a group's only member has refused it, which is no scan: so no other group's reasons continue with it.
+    /// Never allocates.
     pub(crate) fn refuse_alone(&mut self, group: GroupId, refused: &Refused)
         requires head { StandsAt (length self.old.scans) self.old group.0 }
         requires room { 1 < self.old.room }
@@ -162,11 +164,41 @@ impl Reasons {
         ensures scans { self.new.scans ≡ self.old.scans }
     {
         let head = self.head(group);
-        let next = head.refuse_alone(&mut self.chains, self.scans.as_slice(), group, refused);
+        let scans = self.scans.as_slice();
+        if let Ongoing::Hold {
+            task,
+            serial,
+            from,
+            ..
+        } = head.ongoing
+        {
+            if refused.frame_stands {
+                let last = Checked {
+                    at: refused.at,
+                    scans: scans.len(),
+                };
+                let next = Head {
+                    ongoing: Ongoing::Hold {
+                        task,
+                        serial,
+                        from,
+                        last,
+                    },
+                    older: head.older,
+                };
+                self.heads.put(group.0, next, NO_REASON);
+                return;
+            }
+        }
+        let before = head.close(&mut self.chains, scans, group);
+        let next = Head {
+            ongoing: reason_begun(scans, refused),
+            older: with_own(&mut self.chains, before, group, refused),
+        };
         self.heads.put(group.0, next, NO_REASON);
     }
 
-    /// A group gives birth to another. Never allocates.
+    /// A group gives birth to another: the other's reasons begin as this one's stand, and with the birth. Never allocates.
     pub(crate) fn bear(&mut self, group: GroupId, birth: &OwnFork)
         requires head { StandsAt (length self.old.scans) self.old group.0 }
         requires room { 1 < self.old.room }
@@ -175,7 +207,16 @@ impl Reasons {
         ensures scans { self.new.scans ≡ self.old.scans }
     {
         let head = self.head(group);
-        let next = head.bear(&mut self.chains, self.scans.as_slice(), group, birth);
+        let before = head.close(&mut self.chains, self.scans.as_slice(), group);
+        let born = Reason::One(Line::Born {
+            group: birth.child,
+            parent: birth.parent,
+            at: birth.at,
+        });
+        let next = Head {
+            ongoing: Ongoing::Nothing,
+            older: self.chains.push(born, before),
+        };
         self.heads.put(birth.child.0, next, NO_REASON);
     }
 
@@ -227,5 +268,58 @@ impl Reasons {
         ensures scans { self.new.scans ≡ self.old.scans ++ at ∷ [] }
     {
         self.scans.push_reserved(at);
+    }
+}
+
+/// A list with the line of an own check that finds the task busy, where it is one: a run tells of scans
+/// alone. A hold is told by what continues.
+fn with_own(chains: &mut Chains, list: ChainId, group: GroupId, refused: &Refused) -> ChainId
+    requires known { list.0 < length chains.old.lists }
+    requires room { 0 < chains.old.room }
+    ensures list { slice_index_or chains.new.lists result.0 [] ≡ busy_reasons group refused.now ++ slice_index_or chains.old.lists list.0 [] }
+    ensures known { result.0 < length chains.new.lists }
+    ensures kept { Keeps chains.old.lists chains.new.lists }
+{
+    if refused.blame != Blame::Busy {
+        return list;
+    }
+    let line = Line::Busy {
+        group,
+        task: refused.task,
+        at: u64::from(refused.at),
+    };
+    chains.push(Reason::One(line), list)
+}
+
+/// A hold continues while its frame stands, whoever is refused now: that frame alone keeps the group.
+fn continues(ongoing: Ongoing, refused: &Refused) -> bool
+    ensures { result ≡ continues_after ongoing refused.now }
+{
+    match ongoing {
+        Ongoing::Nothing => false,
+        Ongoing::Hold { .. } => refused.frame_stands,
+        Ongoing::Busy { task, .. } => refused.blame == Blame::Busy && refused.task == task,
+    }
+}
+
+/// The reason that begins with a refusal.
+fn reason_begun(scans: &[u32], refused: &Refused) -> Ongoing
+    ensures { result ≡ reason_begun_by (length scans.now) refused.now.task refused.now.at refused.now.blame }
+{
+    match refused.blame {
+        Blame::Frame(serial) => Ongoing::Hold {
+            task: refused.task,
+            serial,
+            from: refused.at,
+            last: Checked {
+                at: refused.at,
+                scans: scans.len(),
+            },
+        },
+        Blame::Busy => Ongoing::Busy {
+            task: refused.task,
+            first: scans.len(),
+        },
+        Blame::Unused => Ongoing::Nothing,
     }
 }

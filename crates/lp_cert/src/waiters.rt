@@ -1,21 +1,18 @@
 //! The groups that wait in a leg, each with its reasons.
-ghost use Rattle.std.specs.Prelude.{◌≡◌, ◌≢◌, Bool, ◌+◌, ◌<◌, ◌≤◌, ◌↔◌, ℕ, List, [], ◌∷◌, ◌++◌, true, false, Some, None, length, map, reverse, slice_set, IfOk, IfSome, IsTrue, OnOk, if◌then◌else◌, nat_eq};
-ghost use Rattle.std.specs.List.{AllByRecursion, list_any};
+ghost use Rattle.std.specs.Prelude.{◌≡◌, Bool, ◌+◌, ◌<◌, ◌≤◌, ◌↔◌, ℕ, [], true, false, Some, None, length, map, reverse, slice_set, take, IfOk, IfSome, IsTrue, OnOk, if◌then◌else◌, nat_eq};
+ghost use Rattle.std.specs.List.{AllByRecursion};
 ghost use Rattle.std.specs.Option.{option_map};
 ghost use Rattle.lp_numbers.specs.Numbers.{has, IsEmpty, IsNextFrom};
-ghost use Rattle.lp_definitions.specs.Events.{group_numbers, is_scan};
+ghost use Rattle.lp_definitions.specs.Events.{group_numbers};
 ghost use Rattle.lp_definitions.specs.Leg.{State};
 ghost use Rattle.lp_definitions.specs.Sound.{IsSound};
 ghost use Rattle.lp_tasks.specs.Passing.{passing};
 ghost use Rattle.lp_transition.specs.Blames.{has_frame_in};
-ghost use Rattle.lp_transition.specs.Scan.{first_refused};
 ghost use Rattle.lp_machine.specs.Table.{slot, state_in};
 ghost use Rattle.lp_tasks.specs.inside.Table.{is_in};
 ghost use Rattle.lp_definitions.specs.Certificates.{after_refusal, group_id};
 ghost use Rattle.lp_transition.specs.inside.ScanSteps.{groups_of};
 ghost use Rattle.lp_cert.specs.inside.Heads.{HasFrameAs, IsUsed, is_held};
-ghost use Rattle.lp_cert.specs.Heads.{head_lines};
-ghost use Rattle.lp_cert.specs.Invariant.{floor_waiters};
 ghost use Rattle.lp_cert.specs.Waiters.{head_of, waiter_in, waiters_of};
 ghost use Rattle.lp_cert.specs.inside.Waiters.{AreBare, IsLonger, AreHeads, AreStanding, StandsAt, IsJudged, AreJudged, IsUsedVerdict, is_left, after_birth, after_switch, has_off, lines_at, scanned_lines, AreTakenIn, IsTakenIn};
 
@@ -29,7 +26,7 @@ use crate::ongoing::Ongoing;
 use crate::reasons::Reasons;
 use lp_model::{Consistency, Verdict};
 use lp_numbers::NumberSet;
-use lp_stack::{GroupId, Level, TaskId};
+use lp_stack::{GroupId, Level};
 use lp_transition::{Core, What};
 use std::alloc::{AllocError, Global};
 use std::marker::Model;
@@ -101,7 +98,6 @@ impl Waiters {
     pub(crate) fn least(&self) -> Option<GroupId>
         ensures least { IsNextFrom (has self.now.groups) 0 (option_map (λ group. group.0) result) }
         ensures few { IfSome result (λ group. group.0 < 65536) }
-        ensures stands { AreHeads self.now.reasons.lists (length self.now.reasons.scans) (floor_waiters self.now.reasons result) }
     {
         let number = self.groups.next(0)?;
         Some(GroupId(number))
@@ -125,21 +121,11 @@ impl Waiters {
         listed(alloc, &self.groups, &self.reasons)
     }
 
-    /// Whether nothing is known of a group yet.
-    pub(crate) fn is_bare(&self, group: GroupId) -> bool
-        requires { StandsAt (length self.now.reasons.scans) self.now.reasons group.0 }
-        ensures { IsTrue result → (scans : List ℕ) → head_lines self.now.reasons.lists scans group (head_of self.now.reasons group.0) ≡ [] }
-    {
-        self.reasons.is_bare(group)
-    }
-
-    /// Whether nothing is known of any group, as no scan and no birth was noted in the leg.
+    /// Whether nothing is known of any group that waits.
     pub(crate) fn are_bare(&self) -> bool
         ensures { IsTrue result → AreBare self.now }
     {
-        // For the proof alone, which knows what every value keeps once a field is read.
-        let _ = &self.groups;
-        self.reasons.is_empty()
+        are_bare(&self.groups, &self.reasons)
     }
 
     /// Puts the groups that wait at the end of a list, in increasing order; AllocError where an allocation failed, and
@@ -171,11 +157,16 @@ impl Waiters {
         reasons.into_past()
     }
 
-    /// A group as it stands, which may wait or not.
-    pub(crate) fn waiter(&self, group: GroupId) -> Waiter
-        ensures { result ≡ waiter_in self.now.reasons group.0 }
+    /// Of the groups that wait only the least waits on. Never allocates.
+    pub(crate) fn keep_least(&mut self)
+        ensures least { waiters_of self.new ≡ take 1 (waiters_of self.old) }
+        ensures reasons { self.new.reasons ≡ self.old.reasons }
     {
-        self.reasons.waiter(group)
+        let Some(group) = self.groups.next(0) else {
+            return;
+        };
+        self.groups.clear();
+        self.groups.insert(group);
     }
 
     /// A group waits no longer. Never allocates.
@@ -342,6 +333,19 @@ fn is_left(waiting: &NumberSet, refused: &NumberSet, group: GroupId) -> bool
     ensures { result ≡ is_left waiting.now refused.now group.0 }
 {
     waiting.contains(group.0) && !refused.contains(group.0)
+}
+
+/// Whether nothing is known of any of these groups.
+fn are_bare(groups: &NumberSet, reasons: &Reasons) -> bool
+    requires { AreStanding (record { groups = groups.now; reasons = reasons.now }) }
+    ensures { IsTrue result → AreBare (record { groups = groups.now; reasons = reasons.now }) }
+{
+    for number in groups {
+        if !reasons.is_bare(GroupId(number)) {
+            return false;
+        }
+    }
+    true
 }
 
 /// Puts the groups of a set at the end of a list, in increasing order; AllocError where an allocation failed, and then

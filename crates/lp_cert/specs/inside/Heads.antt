@@ -45,17 +45,11 @@ FitsOlder scans Nothing older = IsUnchecked older
 FitsOlder scans (Hold task serial from last) older = Unit {0}
 FitsOlder scans (Busy task first) older = (first < scans) ⊎ IsBusyInFront task older
 
--- where something continues, a scan was noted, or there is a list that isn't empty
-abbrev pub IsKnown : (lists scans : ℕ) → Ongoing → Type 0
-IsKnown lists scans Nothing = Unit {0}
-IsKnown lists scans _ = (0 < scans) ⊎ (1 < lists)
-
 -- the reasons of a group after so many scans, over these lists
 pub record IsHead (lists : List (List Reason)) (scans : ℕ) (head : Head) : Type 0 where
   pub known : head.older.0 < length lists
   pub fits : AllByRecursion (FitsIn scans) (slice_index_or lists head.older.0 [])
   pub continues : ContinuesIn scans head.ongoing
-  pub some_list : IsKnown (length lists) scans head.ongoing
   pub fits_older : FitsOlder scans head.ongoing (slice_index_or lists head.older.0 [])
 
 -- earlier lists stay

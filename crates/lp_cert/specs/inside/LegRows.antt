@@ -1,11 +1,10 @@
 -- Ends of legs as they are kept.
-use Rattle.std.specs.Prelude.{ℕ, ◌+◌, ◌-◌, ◌<◌, ◌≤◌, Bool, true, false, List, [], drop, take, Option, Some, None, slice_index_or}
+use Rattle.std.specs.Prelude.{ℕ, ◌+◌, ◌-◌, ◌<◌, ◌≤◌, Bool, true, false, List, [], drop, take, Option, Some, None, slice_index_or, All, IfSome}
 use Rattle.lp_stack.specs.declared.number.GroupId.{GroupId}
 use Rattle.lp_definitions.specs.declared.cert.Claim.{Claim}
 use Rattle.lp_definitions.specs.declared.cert.Claim.TheVariants as claim
 use Rattle.lp_definitions.specs.Ends.{LegEnd}
 use Rattle.lp_cert.specs.declared.leg_rows.LegRow.{LegRow}
-use Rattle.lp_cert.specs.declared.open_leg.Completion.{Completion}
 use Rattle.lp_cert.specs.declared.open_leg.OpenLeg.{OpenLeg}
 use Rattle.lp_cert.specs.declared.leg_rows.RowKind.{RowKind}
 use Rattle.lp_cert.specs.declared.leg_rows.RowKind.TheVariants.{Waiting, Complete, Other}
@@ -29,13 +28,13 @@ is_other Other = true
 is_other _ = false
 
 -- how the row of a leg tells when it was complete, if it is, after so many events
-abbrev pub kind_of : Option Completion → RowKind
+abbrev pub kind_of : Option ℕ → RowKind
 kind_of None = Waiting
-kind_of (Some done) = Complete
+kind_of (Some at) = Complete
 
-abbrev pub at_of : ℕ → Option Completion → ℕ
+abbrev pub at_of : ℕ → Option ℕ → ℕ
 at_of noted None = noted
-at_of noted (Some done) = done.at
+at_of noted (Some at) = at
 
 -- the end of a leg whose certificates have no line, with their groups
 abbrev pub bare_end : LegRow → List GroupId → LegEnd
@@ -69,15 +68,13 @@ abbrev pub row_after : ℕ → OpenLeg → (start count : ℕ) → LegRow
 row_after noted leg start count =
     record { opened = leg.opened; at = at_of noted leg.completed; start = start; count = count; target = leg.target; kind = kind_of leg.completed }
 
--- ends of legs, and the room: for rows, for ends that are kept whole, and how many places of these can be told
+-- ends of legs, and one that is ready to be put after them
 pub record KeptEnds : Type 0 where
   pub ends : List LegEnd
-  pub row_room : ℕ
-  pub other_room : ℕ
-  pub places : ℕ
+  pub closing : Option LegEnd
 
--- there is room for an end that is kept whole
-pub record HasRoom (kept : KeptEnds) : Type 0 where
-  pub rows : 0 < kept.row_room
-  pub others : 0 < kept.other_room
-  pub places : 0 < kept.places
+-- what each row points at is there, and so it is of the one that is ready, for which there is room
+pub record AreFitting (groups others room : ℕ) (rows : List LegRow) (closing : Option LegRow) : Type 0 where
+  pub each : All (IsFitting groups others) rows
+  pub next : IfSome closing (IsFitting groups others)
+  pub has_room : IfSome closing (λ row. 0 < room)

@@ -17,6 +17,7 @@ use Rattle.lp_definitions.specs.Tasks.{on_live}
 use Rattle.lp_definitions.specs.Leg.{LegTask, State, some_live, is_alone}
 use Rattle.lp_machine.specs.Machine.{outlines_of}
 use Rattle.lp_machine.specs.Table.{Table, Engine, slot, leg_tasks, bounds_of, state_in}
+use Rattle.lp_tasks.specs.Passing.{passing}
 use Rattle.lp_tasks.specs.inside.Table.{is_in, is_off}
 use Rattle.lp_definitions.specs.declared.line.Line.{Line}
 use Rattle.lp_cert.specs.declared.reason.Reason.{Reason}
@@ -117,8 +118,11 @@ after_birth birth parent lines group =
     else lines group
 
 -- no group that waits has a line
+abbrev pub IsBare : LegReasons → ℕ → Type 0
+IsBare reasons group = lines_in reasons group ≡ []
+
 abbrev pub AreBare : WaitingGroups → Type 0
-AreBare waiters = (group : ℕ) → has waiters.groups group ≡ true → lines_in waiters.reasons group ≡ []
+AreBare waiters = AllByRecursion (IsBare waiters.reasons) (passing 0 65536 (has waiters.groups))
 
 -- their reasons speak of so many scans
 abbrev pub AreHeads : List (List Reason) → ℕ → List Waiter → Type 0

@@ -1,20 +1,15 @@
 //! Control events that are accepted, of which each opens a leg.
-ghost use Rattle.std.specs.Prelude.{◌≡◌, ◌++◌, ◌<◌, true, None, option_to_list, IfOk, OnErr, OnOk};
+ghost use Rattle.std.specs.Prelude.{◌≡◌, ◌<◌, true, None, IfOk, OnErr, OnOk};
 ghost use Rattle.lp_definitions.specs.Events.{is_control};
 ghost use Rattle.lp_machine.specs.Machine.{refusal_of};
 ghost use Rattle.lp_machine.specs.Steps.{IsStep};
 ghost use Rattle.lp_machine.specs.Table.{state_in};
 ghost use Rattle.lp_transition.specs.Weigh.{HasBlamesAfter};
 ghost use Rattle.lp_transition.specs.LastScan.{IsLastScanAfter};
-ghost use Rattle.std.specs.Option.{option_map};
 ghost use Rattle.lp_cert.specs.Ends.{IsMadeFurther};
-ghost use Rattle.lp_cert.specs.Invariant.{open_end};
-ghost use Rattle.lp_cert.specs.inside.Invariant.{HasFloors};
 
 use super::Maker;
-use crate::leg_rows::LegRows;
 use crate::open_leg::OpenLeg;
-use crate::waiters::Waiters;
 use lp_model::Consistency;
 use lp_transition::{Core, Event, Reply};
 use std::alloc::{AllocError, Global};
@@ -40,36 +35,18 @@ impl Maker {
         ensures current { OnErr result (self.new.current ≡ self.old.current) }
     {
         self.ready = None;
-        let noted = self.noted;
-        add_end(alloc, &mut self.ended, noted, self.current, &self.waiters)?;
+        self.ended
+            .close(alloc, self.current, self.noted, &self.waiters)?;
         let number = core.events() as u32 + 1;
         let target = core.new_level(event);
         self.noted = number;
         self.waiters.open(core, target);
+        self.ended.push_closed();
         let reply = match core.step_plain(alloc, event) {
             Ok(reply) => reply,
             Err(_) => unreachable!(),
         };
         self.current = Some(OpenLeg::new(number, target, reply.completed));
         Ok(reply)
-    }
-}
-
-/// The end of the leg under way more, if there is one, as it stands after so many events; AllocError where an allocation failed, and
-/// then the ends are as they were.
-fn add_end(
-    alloc: Global,
-    ended: &mut LegRows,
-    noted: u32,
-    current: Option<OpenLeg>,
-    waiters: &Waiters,
-) -> Result<(), AllocError>
-    requires { HasFloors waiters.now current }
-    ensures ends { OnOk result (ended.new.ends ≡ ended.old.ends ++ option_to_list (option_map (open_end noted waiters.now) current)) }
-    ensures left { OnErr result (ended.new.ends ≡ ended.old.ends) }
-{
-    match current {
-        Some(leg) => ended.push_leg(alloc, leg, noted, waiters),
-        None => Ok(()),
     }
 }

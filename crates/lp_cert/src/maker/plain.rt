@@ -12,7 +12,7 @@ ghost use Rattle.lp_machine.specs.Table.{Engine, state_in};
 ghost use Rattle.lp_transition.specs.LastScan.{used_scan};
 ghost use Rattle.lp_transition.specs.Weigh.{HasBlamesAfter, Weighed, refusal_in};
 ghost use Rattle.lp_cert.specs.Ends.{IsMadeFurther, IsMadeWith, made_upto, passed_upto};
-ghost use Rattle.lp_cert.specs.inside.Invariant.{HasFloor, IsStepped, is_settled};
+ghost use Rattle.lp_cert.specs.inside.Invariant.{IsStepped, is_settled};
 ghost use Rattle.lp_cert.specs.inside.OwnEffects.{HasEffectRoom, IsTold, after_effect};
 ghost use Rattle.lp_cert.specs.inside.Waiters.{HasFewGroups, lines_at, own_lines};
 
@@ -91,10 +91,8 @@ pub(super) fn affect_leg(
     waiters: &mut Waiters,
     effect: &OwnEffect,
 )
-    requires floor { HasFloor waiters.old leg.old.completed }
-    requires room { HasEffectRoom effect.now waiters.old }
-    ensures stepped { (model : Rules) (e : Engine) (step : Weighed) (has_frame : (task serial : ℕ) → Bool) → used_scan model step.event ≡ None → ((group : ℕ) → own_lines model e step.event step.verdicts (lines_at waiters.old) group ≡ after_effect has_frame effect.now (lines_at waiters.old) group) → IsTold has_frame effect.now waiters.old → HasFewGroups e step.event → reply.now ≡ step.reply → IsStepped model e step number leg.old leg.new waiters.old waiters.new }
-    ensures floor { HasFloor waiters.new leg.new.completed }
+    requires { HasEffectRoom effect.now waiters.old }
+    ensures { (model : Rules) (e : Engine) (step : Weighed) (has_frame : (task serial : ℕ) → Bool) → used_scan model step.event ≡ None → ((group : ℕ) → own_lines model e step.event step.verdicts (lines_at waiters.old) group ≡ after_effect has_frame effect.now (lines_at waiters.old) group) → IsTold has_frame effect.now waiters.old → HasFewGroups e step.event → reply.now ≡ step.reply → IsStepped model e step number leg.old leg.new waiters.old waiters.new }
 {
     if leg.is_over(number, reply, waiters) {
         return;

@@ -16,7 +16,7 @@ pub note_leg-requires-clause-own_room : goal.note_leg-requires-clause-own_room
 note_leg-requires-clause-own_room g c =
     let i = c.self.inside in
     let kept : i.ready ≡ Some c.in-Some.ready = sym c.take.ensures.value ∙ c.in-Some.is in
-    let ready = ready_for i.noted i.current i.waiters _ i.closing i.ready c.in-Some.ready c.self.invariant.for_event kept in
+    let ready = ready_for i.noted i.current i.waiters _ i.ready c.in-Some.ready c.self.invariant kept in
     own_room c.args.step.now.event i.waiters ready.room
 
 pub note_leg-requires-clause-room : goal.note_leg-requires-clause-room
@@ -24,7 +24,7 @@ note_leg-requires-clause-room g c =
     let i = c.self.inside in
     let kept : i.ready ≡ Some c.in-Some.ready = sym c.take.ensures.value ∙ c.in-Some.is in
     let asked = rw (← c.self.view_is) at c.requires.ready in
-    let ready = ready_for i.noted i.current i.waiters _ i.closing i.ready c.in-Some.ready c.self.invariant.for_event kept in
+    let ready = ready_for i.noted i.current i.waiters _ i.ready c.in-Some.ready c.self.invariant kept in
     subst (λ n. n ≤ i.waiters.reasons.room) (ap (λ (r : Room). r.verdicts) (room_is i.ready c.in-Some.ready (room_for c.args.step.now) kept asked)) ready.verdict_room
 
 pub returns-in_default-current : goal.returns-in_default-current
@@ -52,7 +52,7 @@ returns-then-not-ready g c = record {
       let asked = rw (← c.self.view_is) at c.requires.ready in
       let stays : is_opening c.args.step.now ≡ false = sym (opens_is i.ready c.in-Some.ready (room_for c.args.step.now) (sym c.take.ensures.value ∙ c.in-Some.is) asked) ∙ not_so c.in-Some.ready.opens c.if-not-ready.true in
       still_made g.M.Consistency.rules g.met.M.Consistency.lawful run c.args.core.now stands c.args.step.now c.requires.weighed old new was c.events.ensures.wide c.events.ensures.blamed after stands_after blamed known stays refl i.noted number c.in-Some-current.leg c.note_leg.new.leg i.waiters c.note_leg.new.waiters
-      (ap (λ m. m + 1) c.events.ensures.value) c.note_leg.ensures.stepped (ap (option_map (open_end i.noted i.waiters)) c.in-Some-current.is) refl;
+      (ap (λ m. m + 1) c.events.ensures.value) c.note_leg.ensures (ap (option_map (open_end i.noted i.waiters)) c.in-Some-current.is) refl;
 }
 
 pub returns : goal.returns
@@ -65,18 +65,18 @@ returns g c = record {
       let number = c.events.result + 1 in
       let later = c.open.new.self in
       let old : Made = record { ended = i.ended.ends; current = option_map (open_end i.noted i.waiters) i.current; ready = option_map room_of i.ready } in
-      let new : Made = record { ended = c.push_end.new.ended.ends; current = Some (open_end number later c.opened-next.result); ready = option_map room_of c.take.new.self } in
+      let new : Made = record { ended = c.push_closed.new.self.ends; current = Some (open_end number later c.opened-next.result); ready = option_map room_of c.take.new.self } in
       let was : IsMadeWith model run c.args.core.now old = rw (← c.self.view_is) at is in
       let asked = rw (← c.self.view_is) at c.requires.ready in
       let kept : i.ready ≡ Some c.in-Some.ready = sym c.take.ensures.value ∙ c.in-Some.is in
       let turns : is_opening step ≡ true = sym (opens_is i.ready c.in-Some.ready (room_for step) kept asked) ∙ not_other c.in-Some.ready.opens c.if-not-ready.false in
-      let ready = ready_for i.noted i.current i.waiters _ i.closing i.ready c.in-Some.ready c.self.invariant.for_event kept in
-      let closing = c.take-2.ensures.value ∙ ready.left (not_other c.in-Some.ready.opens c.if-not-ready.false) in
+      let ready = ready_for i.noted i.current i.waiters _ i.ready c.in-Some.ready c.self.invariant kept in
+      let closing = ready.left (not_other c.in-Some.ready.opens c.if-not-ready.false) in
       let target = ap (λ (l : OpenLeg). l.target.0) c.opened-next.ensures in
       turned_made model g.met.M.Consistency.lawful run c.args.core.now stands step c.requires.weighed old new was c.events.ensures.wide c.events.ensures.blamed after stands_after blamed known turns
       number later (ap (λ m. m + 1) c.events.ensures.value)
       (λ sound group. c.open.ensures sound group ∙ ap (λ level. if has_off s level group then Some [] else None) target)
-      (c.push_end.ensures ∙ ap (λ (o : Option LegEnd). i.ended.ends ++ option_to_list o) closing)
+      (c.push_closed.ensures ∙ ap (λ (o : Option LegEnd). i.ended.ends ++ option_to_list o) closing)
       (ap (λ (l : OpenLeg). Some (open_end number later l)) c.opened-next.ensures);
 }
 
@@ -86,16 +86,8 @@ invariant_of-self-2 g c = grind (arith, common_steps)
 pub invariant_of-self-then-not-ready : goal.invariant_of-self-then-not-ready
 invariant_of-self-then-not-ready g c = grind (arith, common_steps)
 
-pub push_end-requires : goal.push_end-requires
-push_end-requires g c =
-    let i = c.self.inside in
-    (ready_for i.noted i.current i.waiters _ i.closing i.ready c.in-Some.ready c.self.invariant.for_event (sym c.take.ensures.value ∙ c.in-Some.is)).end_room (not_other c.in-Some.ready.opens c.if-not-ready.false)
-
 pub note_leg-requires-clause-scan_room : goal.note_leg-requires-clause-scan_room
 note_leg-requires-clause-scan_room g c = grind (arith, common_steps)
-
-pub note_leg-requires-clause-floor : goal.note_leg-requires-clause-floor
-note_leg-requires-clause-floor g c = grind (arith, common_steps)
 
 pub note_leg-requires-clause-weighed : goal.note_leg-requires-clause-weighed
 note_leg-requires-clause-weighed g c = c.requires.weighed

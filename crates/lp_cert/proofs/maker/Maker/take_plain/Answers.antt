@@ -63,7 +63,7 @@ returns-clause-made g c = λ run stands is.
     let stays = stays_in model e (plain_step model e event) (weighed model g.met.M.Consistency.lawful run e stands event c.requires.plain c.requires.room) c.requires.stays in
     plain_made model g.met.M.Consistency.lawful run e stands event c.requires.plain stays c.requires.room c.events.ensures.wide c.events.ensures.blamed old new was c.step_plain-2.new.self (step.reaches run stands) (plain_blames model c.args.core.now event c.step_plain-2.new.self c.requires.plain c.in_ok-reply-2.ensures.blames) c.in_ok-reply-2.ensures.last_scan refl
     i.noted number (ap (λ m. m + 1) c.events.ensures.value) waiters later (Some c.in-Some.leg) (Some c.affect_leg.new.leg)
-    (c.affect_leg.ensures.stepped model e (plain_step model e event) (has_frame_in (state_in e)) (plain_unused model event c.requires.plain) (c.own_effect-effect.ensures.lines []) c.own_effect-effect.ensures.told c.own_effect-effect.ensures.few answers)
+    (c.affect_leg.ensures model e (plain_step model e event) (has_frame_in (state_in e)) (plain_unused model event c.requires.plain) (c.own_effect-effect.ensures.lines []) c.own_effect-effect.ensures.told c.own_effect-effect.ensures.few answers)
     (sym same ∙ ap (option_map (open_end i.noted waiters)) c.in-Some.is) refl
 
 on_err : {A E P : Type 0} (r : Result A E) → P → OnErr r P
