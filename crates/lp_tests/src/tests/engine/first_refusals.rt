@@ -8,7 +8,17 @@ use lp_model::{Blame, CheckKind, ForkKind, Verdict};
 use lp_models::AllAtOnce;
 use lp_process::ProcessGroup;
 
-/// Three members of a group that waits: they sleep, and the second is in a call.
+/// Three members of a group that waits: two sleep, and the second is on a CPU.
+const BUSY: [Event; 6] = [
+    Event::Enter(ONE),
+    Event::Fork(ONE, TWO, ForkKind::Share),
+    Event::Fork(ONE, THREE, ForkKind::Share),
+    Event::Sleep(ONE),
+    Event::Sleep(THREE),
+    Event::Enable,
+];
+
+/// The same, where all sleep, and the second is in a call.
 const HELD: [Event; 8] = [
     Event::Enter(ONE),
     Event::Fork(ONE, TWO, ForkKind::Share),
@@ -23,11 +33,17 @@ const HELD: [Event; 8] = [
 /// Something happens to the first member.
 const TOUCHED: [Event; 2] = [Event::Wake(ONE), Event::Sleep(ONE)];
 
+/// The second member sleeps.
+const ASLEEP: [Event; 1] = [Event::Sleep(TWO)];
+
+/// The second member dies.
+const DEAD: [Event; 1] = [Event::Die(TWO)];
+
 /// The second member returns.
 const RETURNED: [Event; 3] = [Event::Wake(TWO), Event::Ret(TWO), Event::Sleep(TWO)];
 
 /// It returns, and then it dies.
-const DEAD: [Event; 3] = [Event::Wake(TWO), Event::Ret(TWO), Event::Die(TWO)];
+const RETURNED_AND_DEAD: [Event; 3] = [Event::Wake(TWO), Event::Ret(TWO), Event::Die(TWO)];
 
 const ONE_ADMITTED: Verdict = Verdict {
     task: ONE,
@@ -44,36 +60,49 @@ const THREE_ADMITTED: Verdict = Verdict {
     blame: None,
 };
 
+const TWO_BUSY: Verdict = Verdict {
+    task: TWO,
+    blame: Some(Blame::Busy),
+};
+
 /// The second member is refused for its call, which was the fourth event.
-const REFUSED: Verdict = Verdict {
+const TWO_HELD: Verdict = Verdict {
     task: TWO,
     blame: Some(Blame::Frame(4)),
 };
+
+/// All members, each admitted.
+const ALL: [Verdict; 3] = [ONE_ADMITTED, TWO_ADMITTED, THREE_ADMITTED];
+
+/// Those that are left where the second died.
+const OTHERS: [Verdict; 2] = [ONE_ADMITTED, THREE_ADMITTED];
 
 /// Events, the verdicts of the scan after them, and whether the group switches at it.
 pub(super) type Row = (&'static [Event], &'static [Verdict], bool);
 
 /// Before the first scan nothing is known of who is admitted, so it looks at every member.
-const FIRST: Row = (&HELD, &[ONE_ADMITTED, REFUSED, THREE_ADMITTED], false);
+const FIRST_BUSY: Row = (&BUSY, &[ONE_ADMITTED, TWO_BUSY, THREE_ADMITTED], false);
 
 /// The first member is admitted again and the second refused, so the third isn't looked at.
-const SECOND: Row = (&TOUCHED, &[ONE_ADMITTED, REFUSED], false);
+const STILL_BUSY: Row = (&TOUCHED, &[ONE_ADMITTED, TWO_BUSY], false);
 
-/// Nobody is refused, and each member that switches is looked at.
-const ALL_ADMITTED: Row = (
-    &RETURNED,
-    &[ONE_ADMITTED, TWO_ADMITTED, THREE_ADMITTED],
-    true,
-);
+/// As before: nobody is known of.
+const FIRST_HELD: Row = (&HELD, &[ONE_ADMITTED, TWO_HELD, THREE_ADMITTED], false);
+
+/// The frame of the second member still holds the group back, whatever happens to the first: nobody is looked at.
+const STILL_HELD: Row = (&TOUCHED, &[], false);
+
+/// Nobody is refused any longer, and each member that switches is looked at.
+pub(super) const SLEEPS: [Row; 3] = [FIRST_BUSY, STILL_BUSY, (&ASLEEP, &ALL, true)];
 
 /// The same, where the only one who might have been refused is no longer a member.
-const OTHERS_ADMITTED: Row = (&DEAD, &[ONE_ADMITTED, THREE_ADMITTED], true);
+const DIES: [Row; 2] = [FIRST_BUSY, (&DEAD, &OTHERS, true)];
 
 /// The second member returns, and the group switches.
-pub(super) const RETURNS: [Row; 3] = [FIRST, SECOND, ALL_ADMITTED];
+const RETURNS: [Row; 3] = [FIRST_HELD, STILL_HELD, (&RETURNED, &ALL, true)];
 
-/// The second member dies, and the group switches.
-const DIES: [Row; 2] = [FIRST, OTHERS_ADMITTED];
+/// It returns and dies, and the group switches.
+const RETURNS_AND_DIES: [Row; 2] = [FIRST_HELD, (&RETURNED_AND_DEAD, &OTHERS, true)];
 
 /// The event of a scan.
 fn scan_of(kind: CheckKind) -> Event {
@@ -183,39 +212,58 @@ fn turn_out_from_start<M: Consistency>(
     }
 }
 
-/// The same, where the second member returns, and where it dies.
-fn turn_out_both_ways<M: Consistency>(alloc: Global, model: M, kind: CheckKind, group: u16) -> bool
+/// The same of a group that a frame holds back, where its task returns, and where it dies then.
+fn held_turn_out<M: Consistency>(alloc: Global, model: M, kind: CheckKind, group: u16) -> bool
     requires { is_scan_kind kind ≡ true }
 {
     turn_out_from_start(alloc, model, kind, group, &RETURNS)
-        && turn_out_from_start(alloc, model, kind, group, &DIES)
+        && turn_out_from_start(alloc, model, kind, group, &RETURNS_AND_DIES)
+}
+
+/// The same of a group with a member on a CPU, where it sleeps, and where it dies.
+fn busy_turn_out(alloc: Global) -> bool {
+    turn_out_from_start(alloc, ProcessGroup, CheckKind::Walk, 1, &SLEEPS)
+        && turn_out_from_start(alloc, ProcessGroup, CheckKind::Walk, 1, &DIES)
 }
 
 #[test]
 fn a_process_is_asked_up_to_its_first_refusal(rt: HostRuntime) {
-    assert!(rt; turn_out_both_ways(rt.alloc(), ProcessGroup, CheckKind::Walk, 1));
+    assert!(rt; busy_turn_out(rt.alloc()));
 }
 
 #[test]
-fn all_are_asked_up_to_the_first_refusal(rt: HostRuntime) {
-    assert!(rt; turn_out_both_ways(rt.alloc(), AllAtOnce, CheckKind::Stop, 0));
+fn a_process_is_not_asked_while_a_frame_holds_it_back(rt: HostRuntime) {
+    assert!(rt; held_turn_out(rt.alloc(), ProcessGroup, CheckKind::Walk, 1));
 }
 
-/// Of tasks that wait, two sleep in the kernel, the second of them in a call.
-const CALLED: [Event; 6] = [
+#[test]
+fn nobody_is_asked_while_a_frame_holds_all_back(rt: HostRuntime) {
+    assert!(rt; held_turn_out(rt.alloc(), AllAtOnce, CheckKind::Stop, 0));
+}
+
+/// Of tasks that wait, three sleep in the kernel, two of them in a call.
+const CALLED: [Event; 9] = [
     Event::Enter(ONE),
     Event::Sleep(ONE),
     Event::Enter(TWO),
     Event::Call(TWO, A),
     Event::Sleep(TWO),
+    Event::Enter(THREE),
+    Event::Call(THREE, A),
+    Event::Sleep(THREE),
     Event::Enable,
 ];
 
-/// Events, how many verdicts a stop of 70 tasks has after them, and what it says.
-const STOPS: [(&[Event], usize, Said); 3] = [
+/// The third returns as well.
+const THREE_RETURNED: [Event; 3] = [Event::Wake(THREE), Event::Ret(THREE), Event::Sleep(THREE)];
+
+/// Events, how many verdicts a stop of 70 tasks has after them, and what it says. None, while the frame of the second task is
+/// there; once it isn't those up to the third, who is refused.
+const STOPS: [(&[Event], usize, Said); 4] = [
     (&CALLED, 70, Said::Done),
-    (&TOUCHED, 2, Said::Done),
-    (&RETURNED, 70, Said::SwitchedLast(0)),
+    (&TOUCHED, 0, Said::Done),
+    (&RETURNED, 3, Said::Done),
+    (&THREE_RETURNED, 70, Said::SwitchedLast(0)),
 ];
 
 /// Whether a stop that is so weighed and then taken has so many verdicts, and says this.

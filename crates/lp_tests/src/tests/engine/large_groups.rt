@@ -3,10 +3,12 @@
 use super::*;
 use lp_models::AllAtOnce;
 
-const HELD: [Event; 4] = [
+const HELD: [Event; 6] = [
     Event::Enter(ONE),
     Event::Enter(TWO),
     Event::Call(TWO, A),
+    Event::Enter(THREE),
+    Event::Call(THREE, A),
     Event::Enable,
 ];
 
@@ -25,20 +27,23 @@ fn stop_looks_at(alloc: Global, core: &mut Core<AllAtOnce>, count: usize) -> boo
 /// An event, and at how many tasks a stop looks after it.
 type Look = (Event, usize);
 
-/// The looks in a group of three. The first knows nothing, and at the last one all switch.
-const IN_A_GROUP_OF_3: [Look; 4] = [
+/// The looks in a group of three. The first knows nothing. The frame of the second task holds the group back, whatever else is
+/// on its stack, so nobody is looked at; once it is gone the third is refused, and at last all switch.
+const IN_A_GROUP_OF_3: [Look; 5] = [
     (Event::Wake(ONE), 3),
-    (Event::Enter(THREE), 1),
-    (Event::Sleep(ONE), 2),
-    (Event::Ret(TWO), 3),
+    (Event::Call(TWO, A), 0),
+    (Event::Ret(TWO), 0),
+    (Event::Ret(TWO), 2),
+    (Event::Ret(THREE), 3),
 ];
 
 /// Likewise in one of a hundred.
-const IN_A_GROUP_OF_100: [Look; 4] = [
+const IN_A_GROUP_OF_100: [Look; 5] = [
     (Event::Wake(ONE), 100),
-    (Event::Enter(THREE), 1),
-    (Event::Sleep(ONE), 2),
-    (Event::Ret(TWO), 100),
+    (Event::Call(TWO, A), 0),
+    (Event::Ret(TWO), 0),
+    (Event::Ret(TWO), 2),
+    (Event::Ret(THREE), 100),
 ];
 
 /// Whether a stop looks at so many tasks after an event.
@@ -56,7 +61,7 @@ fn all_look(alloc: Global, core: &mut Core<AllAtOnce>, rows: &[Look]) -> bool {
     true
 }
 
-/// The same in a group of so many tasks, of which the second is in a call of a function that changes.
+/// The same in a group of so many tasks, of which the second and the third are in a call of a function that changes.
 fn look_in_a_group(alloc: Global, count: u16, rows: &[Look]) -> bool {
     match start_with(alloc, AllAtOnce, count) {
         Some(mut core) => give(alloc, &mut core, &HELD) && all_look(alloc, &mut core, rows),

@@ -1,7 +1,7 @@
 //! An allocation that fails: nothing has happened, and the same call succeeds after it.
 //!
 //! `scripts/refuse-memory` runs these tests with each allocation refused in turn.
-use super::first_refusals::{RETURNS, Row, weighed};
+use super::first_refusals::{Row, SLEEPS, weighed};
 use super::*;
 use lp_model::{CheckKind, ForkKind, Verdict};
 use lp_models::AllAtOnce;
@@ -280,10 +280,10 @@ fn are_weighed(alloc: Global, core: &mut Core<ProcessGroup>, rows: &[Row]) -> bo
     true
 }
 
-/// Whether they are where the second member of a group returns.
+/// Whether they are where the second member of a group sleeps.
 fn are_weighed_from_start(alloc: Global) -> bool {
     match booted(alloc, ProcessGroup, &ALONE) {
-        Some(mut core) => are_weighed(alloc, &mut core, &RETURNS),
+        Some(mut core) => are_weighed(alloc, &mut core, &SLEEPS),
         None => false,
     }
 }

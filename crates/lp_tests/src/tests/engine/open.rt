@@ -86,6 +86,33 @@ fn a_held_group_is_closed_until_its_frame_is_popped(rt: HostRuntime) {
     assert!(rt; closes_for_a_call(rt.alloc()));
 }
 
+/// It finds by itself that it is in the call.
+const ASKS_ITSELF: [Event; 4] = [
+    Event::Enter(ONE),
+    Event::Call(ONE, A),
+    Event::Enable,
+    Event::Resched(ONE),
+];
+
+/// Whether the group is closed after it, and open again once the task has returned.
+fn closes_by_itself(alloc: Global) -> bool {
+    match start(alloc, Hybrid, &ALONE) {
+        Some(mut core) => {
+            give(alloc, &mut core, &ASKS_ITSELF)
+                && are_open(alloc, &core, 0)
+                && is_held(&core)
+                && give(alloc, &mut core, &[Event::Ret(ONE)])
+                && is_open(alloc, &core)
+        }
+        None => false,
+    }
+}
+
+#[test]
+fn an_own_check_that_finds_a_frame_closes_its_group(rt: HostRuntime) {
+    assert!(rt; closes_by_itself(rt.alloc()));
+}
+
 /// A task that waits on a CPU.
 const BUSY: [Event; 3] = [Event::Enter(ONE), Event::Call(ONE, C), Event::Enable];
 
