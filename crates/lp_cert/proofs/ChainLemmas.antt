@@ -24,11 +24,6 @@ pub lists_of-length : (entries : List Entry) → length (lists_of entries) ≡ s
 unfolding lists_of
 lists_of-length entries = fold-length ([] ∷ []) entries ∙ omega arith
 
-pub no_entries : (entries : List Entry) → length entries ≡ 0 → lists_of entries ≡ [] ∷ []
-unfolding lists_of
-no_entries [] none = refl
-no_entries (entry ∷ entries) none = absurd (omega (arith, none))
-
 -- the lists that are there stay
 fold-keeps : (lists : List (List Reason)) (entries : List Entry) (k : ℕ) → k < length lists → get_or (fold with_entry lists entries) k [] ≡ get_or lists k []
 fold-keeps lists [] k h = refl

@@ -132,11 +132,6 @@ begun_continues n t at (blame.Frame serial) used = omega arith
 begun_continues n t at blame.Busy used = omega arith
 begun_continues n t at blame.Unused used = absurd used
 
-begun_something : (n : ℕ) (t : TaskId) (at : ℕ) (b : Blame) → IsUsed b → reason_begun_by n t at b ≡ Nothing → ⊥
-begun_something n t at (blame.Frame serial) used e = absurd (cc)
-begun_something n t at blame.Busy used e = absurd (cc)
-begun_something n t at blame.Unused used e = used
-
 -- with one scan more it fits whatever is older
 begun_fits : (n : ℕ) (t : TaskId) (at : ℕ) (b : Blame) (rs : List Reason) → IsUsed b → FitsOlder (n + 1) (reason_begun_by n t at b) rs
 begun_fits n t at (blame.Frame serial) rs used = tt

@@ -1,5 +1,5 @@
 -- Parts of lists of reasons.
-use Rattle.std.proofs.Common.{◌≡◌, ℕ, zero, suc, ◌+◌, ◌-◌, ◌<◌, List, [], ◌∷◌, ◌++◌, length, get_or, set, take, drop, Option, Some, None, IfNone, option_to_list, take-append-drop, refl, sym, ap, ap₂, subst, ◌∙◌, arith}
+use Rattle.std.proofs.Common.{◌≡◌, ℕ, zero, suc, ◌+◌, ◌-◌, ◌<◌, List, [], ◌∷◌, ◌++◌, length, get_or, set, take, drop, Option, Some, None, option_to_list, take-append-drop, sym, ap, ap₂, subst, ◌∙◌, arith}
 use Rattle.std.specs.List.{AllByRecursion, slice_get}
 use Rattle.std.proofs.lemmas.List.{append-nil, append_assoc, drop-drop, get_or-set_other, get_or-set_same, take_all}
 use borrow.Author.Count.{below_more}
@@ -61,15 +61,6 @@ module _ (ongoing left taken : Option Reason) (this : List Reason) (count : ℕ)
       ∙ (append-nil (option_to_list ongoing)
       ∙ sym (ap (λ t. (option_to_list left ++ take count this) ++ option_to_list t) is
       ∙ ap₂ (λ (l : Option Reason) n. (option_to_list l ++ take n this) ++ option_to_list ongoing) after none))
-
-  none_then : (o : Option Reason) → IfNone o (option_to_list o ++ take 0 this ≡ [])
-  none_then None = refl
-  none_then (Some r) = tt
-
-  pub nothing_left : IfNone taken (option_to_list ongoing ++ take count this ≡ [])
-  nothing_left =
-      subst (λ (o : Option Reason). IfNone taken (option_to_list o ++ take count this ≡ [])) is
-      (subst (λ n. IfNone taken (option_to_list taken ++ take n this ≡ [])) (sym none) (none_then taken))
 
 -- ---- Places of a list without some of its newest reasons
 

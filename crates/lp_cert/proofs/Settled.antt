@@ -24,15 +24,6 @@ pub open_leg : (current : Option OpenLeg) → is_settled current ≡ false → (
 open_leg None settled = absurd (false≢true (sym settled))
 open_leg (Some leg) settled = (leg, refl, not_some leg.completed settled)
 
-end_stays : (noted number : ℕ) (w : WaitingGroups) (leg : OpenLeg) (done : Option ℕ) → is_some done ≡ true → open_end number w (record leg { completed = done }) ≡ open_end noted w (record leg { completed = done })
-end_stays noted number w leg None settled = absurd (false≢true settled)
-end_stays noted number w leg (Some done) settled = refl
-
--- and the end of one that is complete doesn't tell how many events were noted
-pub ends_stay : (noted number : ℕ) (w : WaitingGroups) (current : Option OpenLeg) → is_settled current ≡ true → option_map (open_end number w) current ≡ option_map (open_end noted w) current
-ends_stay noted number w None settled = refl
-ends_stay noted number w (Some leg) settled = ap Some (end_stays noted number w leg leg.completed settled)
-
 module _ (model : Rules) (lawful : IsLawful model) (run : Run) (e : Engine) (stands : StandsIn model run (state_in e)) (event : Event) (no_scan : is_scan event ≡ false) (opens_none : is_opening (plain_step model e event) ≡ false) (room : e.number < 1000000) (wide : IsWide e.table) (of_waiting : AreOfWaiting e) where
   unfinished_not : (leg : OpenLeg) → is_some leg.completed ≡ true → leg.completed ≡ None → ⊥
   unfinished_not leg settled unfinished = false≢true (sym (ap is_some unfinished) ∙ settled)
