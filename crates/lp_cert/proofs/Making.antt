@@ -17,7 +17,8 @@ use Rattle.lp_definitions.specs.declared.line.Line.{Line}
 use Rattle.lp_definitions.specs.Ends.{LegEnd}
 use Rattle.lp_cert.specs.declared.open_leg.OpenLeg.{OpenLeg}
 use Rattle.lp_definitions.specs.Certificates.{group_id}
-use Rattle.lp_cert.specs.Invariant.{claim_of, upto_of, open_end}
+use Rattle.lp_cert.specs.CommonHeads.{claim_of, upto_of}
+use Rattle.lp_cert.specs.Invariant.{open_end}
 use Rattle.lp_cert.specs.Waiters.{LegReasons, WaitingGroups, head_of, kept_cert, waiter_in, waiters_of}
 use Rattle.lp_cert.specs.inside.Waiters.{lines_in, lines_at}
 

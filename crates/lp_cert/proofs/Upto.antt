@@ -11,7 +11,8 @@ use Rattle.lp_definitions.specs.Ends.{LegEnd, end_of}
 use Rattle.lp_cert.specs.declared.open_leg.OpenLeg.{OpenLeg}
 use Rattle.lp_definitions.specs.Certificates.{certs_by, completion, lines, waiting_groups}
 use Rattle.lp_cert.specs.Ends.{Made, IsMadeOf, IsMadeWith, cert_upto, end_upto, ended_legs, made_upto, under_way}
-use Rattle.lp_cert.specs.Invariant.{claim_of, open_end, upto_of}
+use Rattle.lp_cert.specs.CommonHeads.{claim_of, upto_of}
+use Rattle.lp_cert.specs.Invariant.{open_end}
 use Rattle.lp_cert.specs.Waiters.{WaitingGroups, kept_cert, waiters_of}
 use Rattle.lp_cert.proofs.Making.{cert_for, map_twice}
 

@@ -4,6 +4,7 @@ pub mod Beside
 pub mod EventLines
 pub mod Laws
 pub mod Waiters
+pub mod CommonHeads
 pub mod Ends
 pub mod Invariant
 pub mod Unchanged

@@ -17,67 +17,10 @@ use std::alloc::{AllocError, Global};
 use std::marker::Model;
 
 /// A list of certificates of one leg, of which each is written out when it is asked for. They
-/// share the memory of what they have in common.
+/// share the older reasons and the scans of the leg.
 ///
 /// Contracts see the list.
 pub struct CertList {
-    many: Box<ManyCerts>,
-}
-
-/// By hand, so that the proof of who owns one lets go of it in one step, not field by field.
-impl Drop for CertList {
-    fn drop(self) {
-        let CertList { many: _ } = self;
-    }
-}
-
-impl Model for CertList {
-    ghost use Rattle.std.specs.Prelude.{List};
-    ghost use Rattle.lp_definitions.specs.declared.cert.Cert.{Cert};
-
-    ghost Value = { List Cert };
-
-    ghost view = { λ c. c.many.value };
-}
-
-impl CertList {
-    /// The certificates of these groups, over their older reasons and the scans of the leg;
-    /// AllocError where an allocation failed.
-    pub(crate) fn many(
-        alloc: Global,
-        head: CommonHead,
-        waiters: Vec<Waiter>,
-        chains: Chains,
-        scans: Vec<u32>,
-    ) -> Result<CertList, AllocError>
-        requires { AreHeads chains.lists (length scans.items) waiters.items }
-        ensures { IfOk result (λ certs. certs ≡ map (kept_cert head.claim head.leg head.upto chains.lists scans.items) waiters.items) }
-    {
-        let many = ManyCerts {
-            head,
-            waiters,
-            chains,
-            scans,
-        };
-        Ok(CertList {
-            many: Box::new(alloc, many)?,
-        })
-    }
-
-    /// The certificates, borrowed.
-    pub fn borrowed(&self) -> CertListRef<'_>
-        ensures { result ≡ self.now }
-    {
-        CertListRef {
-            kept: KeptRef::Many(&self.many),
-        }
-    }
-}
-
-/// Certificates of one leg, over the older reasons and the scans that they share.
-///
-/// Contracts see the list of these certificates.
-pub(crate) struct ManyCerts {
     head: CommonHead,
     waiters: Vec<Waiter>,
     chains: Chains,
@@ -85,9 +28,9 @@ pub(crate) struct ManyCerts {
 }
 
 /// By hand, so that the proof of who owns one lets go of it in one step, not field by field.
-impl Drop for ManyCerts {
+impl Drop for CertList {
     fn drop(self) {
-        let ManyCerts {
+        let CertList {
             head: _,
             waiters: _,
             chains: _,
@@ -96,7 +39,7 @@ impl Drop for ManyCerts {
     }
 }
 
-impl Model for ManyCerts {
+impl Model for CertList {
     ghost use Rattle.std.specs.Prelude.{List, length, map};
     ghost use Rattle.lp_definitions.specs.declared.cert.Cert.{Cert};
     ghost use Rattle.lp_cert.specs.Waiters.{kept_cert};
@@ -107,6 +50,35 @@ impl Model for ManyCerts {
     ghost view = { λ c. map (kept_cert c.head.claim c.head.leg c.head.upto c.chains.lists c.scans.items) c.waiters.items };
 
     ghost invariant = { λ c. AreHeads c.chains.lists (length c.scans.items) c.waiters.items };
+}
+
+impl CertList {
+    /// The certificates of these groups, over their older reasons and the scans of the leg.
+    pub(crate) fn new(
+        head: CommonHead,
+        waiters: Vec<Waiter>,
+        chains: Chains,
+        scans: Vec<u32>,
+    ) -> CertList
+        requires { AreHeads chains.lists (length scans.items) waiters.items }
+        ensures { result ≡ map (kept_cert head.claim head.leg head.upto chains.lists scans.items) waiters.items }
+    {
+        CertList {
+            head,
+            waiters,
+            chains,
+            scans,
+        }
+    }
+
+    /// The certificates, borrowed.
+    pub fn borrowed(&self) -> CertListRef<'_>
+        ensures { result ≡ self.now }
+    {
+        CertListRef {
+            kept: KeptRef::Many(self),
+        }
+    }
 }
 
 /// The certificates of one leg, borrowed from a list of them or of ends of legs.
@@ -121,7 +93,7 @@ pub struct CertListRef<'a> {
 #[derive(Clone, Copy)]
 pub(crate) enum KeptRef<'a> {
     Bare(CommonHead, &'a [GroupId]),
-    Many(&'a ManyCerts),
+    Many(&'a CertList),
 }
 
 impl<'a> Model for CertListRef<'a> {

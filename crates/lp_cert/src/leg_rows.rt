@@ -3,15 +3,13 @@ ghost use Rattle.std.specs.Prelude.{◌≡◌, ◌+◌, ◌<◌, ◌≤◌, ◌+
 ghost use Rattle.std.specs.Option.{option_map};
 ghost use Rattle.lp_cert.specs.Ends.{end_in};
 ghost use Rattle.lp_cert.specs.Invariant.{open_end};
-ghost use Rattle.lp_cert.specs.inside.LegRows.{bare_end, is_other};
+ghost use Rattle.lp_cert.specs.inside.LegRows.{bare_end, is_other, leg_of};
 ghost use Rattle.lp_cert.specs.inside.Waiters.{AreBare};
 
-use crate::cert_head::CommonHead;
 use crate::cert_list::CertListRef;
 use crate::leg_end::{LegEnd, LegEndRef};
 use crate::open_leg::OpenLeg;
 use crate::waiters::Waiters;
-use lp_definitions::Claim;
 use lp_stack::{GroupId, Level};
 use std::alloc::{AllocError, Global};
 use std::marker::Model;
@@ -192,28 +190,29 @@ impl LegRow {
         requires within { self.start + self.count ≤ length groups.now }
         ensures { end_in result ≡ bare_end self (take self.count (drop self.start groups.now)) }
     {
-        let (claim, completed, upto) = match self.kind {
-            RowKind::Complete => {
-                (
-                    Claim::Floor,
-                    Some(u64::from(self.at)),
-                    self.at.saturating_sub(1),
-                )
-            }
-            _ => (Claim::Waiting, None, self.at),
-        };
-        let head = CommonHead {
-            claim,
-            leg: self.opened,
-            upto,
-        };
+        let leg = self.leg();
         let (_, from_start) = groups.split_at(self.start as usize);
         let (own, _) = from_start.split_at(usize::from(self.count));
         LegEndRef {
-            opened: u64::from(self.opened),
+            opened: u64::from(leg.opened),
+            target: leg.target,
+            completed: leg.completed.map(u64::from),
+            certs: CertListRef::bare(leg.head(self.at), own),
+        }
+    }
+
+    /// The leg.
+    fn leg(self) -> OpenLeg
+        ensures { result ≡ leg_of self }
+    {
+        let completed = match self.kind {
+            RowKind::Complete => Some(self.at),
+            _ => None,
+        };
+        OpenLeg {
+            opened: self.opened,
             target: self.target,
             completed,
-            certs: CertListRef::bare(head, own),
         }
     }
 }

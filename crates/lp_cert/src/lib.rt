@@ -2,8 +2,7 @@
 //!
 //! Costs: the memory is linear in the events. Lists of reasons share their older parts, so a child has its parent's
 //! reasons for one entry of 56 bytes, and what continues is kept by its beginning alone. Lines come to be only where a
-//! certificate is written out. A scan costs what its verdicts cost, and with `Maker::note` a look at each live task,
-//! for which `Maker::ready` makes room for 65,536 reasons; a control event that opens a leg goes over the groups; any
+//! certificate is written out. A scan costs what its verdicts cost; a control event that opens a leg goes over the groups; any
 //! other event is constant. A `Maker` has room for 65,536 groups, and 48 bytes for each number up to the greatest group
 //! that had a reason. The end of a leg keeps a copy of the leg's reasons; ends without a line are rows of numbers.
 //! `CertLines` never allocates: a search of a list of n reasons finds the sixteen oldest that are left in some log n

@@ -1,6 +1,8 @@
 //! The leg under way.
 ghost use Rattle.std.specs.Prelude.{◌≡◌, ◌||◌, ℕ, true, false, None, is_some, IfOk, Some};
-ghost use Rattle.lp_cert.specs.inside.Invariant.{IsCompletedAt, certs_at, head_after, leg_at};
+ghost use Rattle.lp_cert.specs.CommonHeads.{head_after};
+ghost use Rattle.lp_cert.specs.Invariant.{certs_at};
+ghost use Rattle.lp_cert.specs.inside.Invariant.{IsCompletedAt, leg_at};
 ghost use Rattle.lp_cert.specs.inside.LegRows.{row_after};
 
 use crate::cert_head::CommonHead;
@@ -60,7 +62,7 @@ impl OpenLeg {
     {
         let list = waiters.list(alloc)?;
         let (chains, scans) = waiters.copy_past(alloc)?;
-        CertList::many(alloc, self.head(noted), list, chains, scans)
+        Ok(CertList::new(self.head(noted), list, chains, scans))
     }
 
     /// The same, with the older reasons and the scans moved. They may be as many as the events.
@@ -74,7 +76,7 @@ impl OpenLeg {
     {
         let list = waiters.list(alloc)?;
         let (chains, scans) = waiters.into_past();
-        CertList::many(alloc, self.head(noted), list, chains, scans)
+        Ok(CertList::new(self.head(noted), list, chains, scans))
     }
 
     /// Whether an event that was answered so leaves nothing to note of the leg: it was complete, or is so from this event on, which
@@ -98,7 +100,7 @@ impl OpenLeg {
     }
 
     /// What the certificates have in common, after so many events.
-    fn head(self, noted: u32) -> CommonHead
+    pub(crate) fn head(self, noted: u32) -> CommonHead
         ensures { result ≡ head_after noted self }
     {
         let (claim, upto) = match self.completed {

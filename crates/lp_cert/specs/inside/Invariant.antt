@@ -1,5 +1,5 @@
 -- What holds of a maker between events, and what an event makes of the leg under way.
-use Rattle.std.specs.Prelude.{◌≡◌, ℕ, ◌<◌, ◌≤◌, Bool, true, false, List, [], map, reverse, take, Option, Some, None, IsSome, is_some, if◌then◌else◌}
+use Rattle.std.specs.Prelude.{◌≡◌, ℕ, ◌<◌, ◌≤◌, Bool, true, false, List, [], reverse, take, Option, Some, None, IsSome, is_some, if◌then◌else◌}
 use Rattle.std.specs.Option.{option_map}
 use Rattle.lp_stack.specs.declared.number.GroupId.{GroupId}
 use Rattle.lp_model.specs.Rules.{Rules}
@@ -12,27 +12,16 @@ use Rattle.lp_definitions.specs.declared.cert.Cert.{Cert}
 use Rattle.lp_definitions.specs.declared.line.Line.{Line}
 use Rattle.lp_cert.specs.declared.open_leg.OpenLeg.{OpenLeg}
 use Rattle.lp_cert.specs.declared.maker.Ready.{Ready}
-use Rattle.lp_cert.specs.declared.cert_head.CommonHead.{CommonHead}
 use Rattle.lp_cert.specs.inside.LegRows.{KeptEnds}
 use Rattle.lp_cert.specs.inside.StepLines.{stepped_lines}
 use Rattle.lp_transition.specs.LastScan.{used_scan}
-use Rattle.lp_cert.specs.Waiters.{WaitingGroups, kept_cert, waiters_of}
+use Rattle.lp_cert.specs.Waiters.{WaitingGroups, waiters_of}
 use Rattle.lp_cert.specs.inside.Waiters.{AreStanding, HasFewGroups, lines_at}
-use Rattle.lp_cert.specs.Invariant.{claim_of, upto_of, open_end}
+use Rattle.lp_cert.specs.Invariant.{open_end}
 
 -- the certificate of a group with these lines, the newest in front
 abbrev pub waiting_cert : Claim → (leg upto : ℕ) → GroupId → List Line → Cert
 waiting_cert claim leg upto group lines = record { claim = claim; leg = leg; group = group; upto = upto; lines = reverse lines }
-
--- the certificates of the leg as they stand after so many events
-abbrev pub certs_at : ℕ → WaitingGroups → OpenLeg → List Cert
-certs_at noted waiters leg =
-    map (kept_cert (claim_of leg.completed) leg.opened (upto_of noted leg.completed) waiters.reasons.lists waiters.reasons.scans)
-    (waiters_of waiters)
-
--- what they have in common
-abbrev pub head_after : ℕ → OpenLeg → CommonHead
-head_after noted leg = record { claim = claim_of leg.completed; leg = leg.opened; upto = upto_of noted leg.completed }
 
 -- there is room for the event: for its reasons and its scan; and if it opens a leg, the end of the one under way is made
 pub record IsReady (noted : ℕ) (current : Option OpenLeg) (waiters : WaitingGroups) (ended : KeptEnds) (ready : Ready) : Type 0 where

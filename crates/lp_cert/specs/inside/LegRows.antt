@@ -1,27 +1,21 @@
 -- Ends of legs as they are kept.
-use Rattle.std.specs.Prelude.{ℕ, ◌+◌, ◌-◌, ◌<◌, ◌≤◌, Bool, true, false, List, [], drop, take, Option, Some, None, slice_index_or, All, IfSome}
+use Rattle.std.specs.Prelude.{ℕ, ◌+◌, ◌<◌, ◌≤◌, Bool, true, false, List, [], drop, take, Option, Some, None, slice_index_or, All, IfSome}
 use Rattle.lp_stack.specs.declared.number.GroupId.{GroupId}
-use Rattle.lp_definitions.specs.declared.cert.Claim.{Claim}
-use Rattle.lp_definitions.specs.declared.cert.Claim.TheVariants as claim
 use Rattle.lp_definitions.specs.Ends.{LegEnd}
 use Rattle.lp_cert.specs.declared.leg_rows.LegRow.{LegRow}
 use Rattle.lp_cert.specs.declared.open_leg.OpenLeg.{OpenLeg}
 use Rattle.lp_cert.specs.declared.leg_rows.RowKind.{RowKind}
 use Rattle.lp_cert.specs.declared.leg_rows.RowKind.TheVariants.{Waiting, Complete, Other}
+use Rattle.lp_cert.specs.CommonHeads.{head_after}
 use Rattle.lp_cert.specs.inside.Bare.{bare_certs}
-
-abbrev pub claim_in : RowKind → Claim
-claim_in Complete = claim.Floor
-claim_in _ = claim.Waiting
 
 abbrev pub completed_in : RowKind → (at : ℕ) → Option ℕ
 completed_in Complete at = Some at
 completed_in _ at = None
 
--- the certificates of a leg that is complete go up to the last event before it was
-abbrev pub upto_in : RowKind → (at : ℕ) → ℕ
-upto_in Complete at = at - 1
-upto_in _ at = at
+-- the leg of a row
+abbrev pub leg_of : LegRow → OpenLeg
+leg_of row = record { opened = row.opened; target = row.target; completed = completed_in row.kind row.at }
 
 abbrev pub is_other : RowKind → Bool
 is_other Other = true
@@ -39,11 +33,12 @@ at_of noted (Some at) = at
 -- the end of a leg whose certificates have no line, with their groups
 abbrev pub bare_end : LegRow → List GroupId → LegEnd
 bare_end row groups =
+    let leg = leg_of row in
     record {
-      opened = row.opened;
-      target = row.target;
-      completed = completed_in row.kind row.at;
-      certs = bare_certs (record { claim = claim_in row.kind; leg = row.opened; upto = upto_in row.kind row.at }) groups;
+      opened = leg.opened;
+      target = leg.target;
+      completed = leg.completed;
+      certs = bare_certs (head_after row.at leg) groups;
     }
 
 -- the end of a leg, of which only the kind is looked at

@@ -45,4 +45,3 @@ returns-then-is_settled-clause-quiet g c = λ yes. absurd (false≢true yes)
 
 pub returns-then-is_settled-clause-made : goal.returns-then-is_settled-clause-made
 returns-then-is_settled-clause-made g c = λ yes. absurd (false≢true yes)
-

@@ -2,5 +2,5 @@ use Rattle.std.proofs.Common.{arith}
 use Rattle.std.proofs.lemmas.Grind.{common_steps}
 use Rattle.lp_cert.proofs.open_leg.OpenLeg.into_certs.Goals as goal
 
-pub many-requires : goal.many-requires
-many-requires c = grind (arith, common_steps)
+pub new-requires : goal.new-requires
+new-requires c = grind (arith, common_steps)
