@@ -1,5 +1,5 @@
 -- What an engine with the maker of its certificates is made of a run, and what it tells.
-use Rattle.std.proofs.Common.{◌≡◌, ◌+◌, ℕ, suc, Bool, true, false, List, [], ◌∷◌, length, map, nat_eq, cond, is_some, Option, Some, None, Result, Ok, Err, IfOk, OnOk, OnErr, if◌then◌else◌, refl, sym, ap, ap₂, ◌∙◌, arith, length-append}
+use Rattle.std.proofs.Common.{◌≡◌, ◌+◌, ℕ, suc, Bool, true, false, List, [], ◌∷◌, length, map, nat_eq, cond, is_some, Option, Some, None, Result, Ok, Err, IfOk, OnOk, OnErr, if◌then◌else◌, refl, sym, ap, ap₂, ◌∙◌, arith, length-append, subst}
 use Rattle.std.specs.Prelude.{slice_get}
 use Rattle.std.specs.List.{find}
 use Rattle.std.specs.Option.{option_map}
@@ -28,7 +28,7 @@ explained_by core made = record { core = core; ended = made.ended; current = opt
 
 -- ---- Results
 
-pub on_ok : {A E : Type 0} (S : A → Type 0) (P Q : Type 0) → ((x : A) → S x → P → Q) → (r : Result A E) → IfOk r S → OnOk r P → OnOk r Q
+on_ok : {A E : Type 0} (S : A → Type 0) (P Q : Type 0) → ((x : A) → S x → P → Q) → (r : Result A E) → IfOk r S → OnOk r P → OnOk r Q
 on_ok S P Q f (Ok x) s p = f x s p
 on_ok S P Q f (Err e) s p = tt
 
@@ -36,7 +36,7 @@ pub on_ok_two : {A E : Type 0} (S : A → Type 0) (P R Q : Type 0) → ((x : A) 
 on_ok_two S P R Q f (Ok x) s p t = f x s p t
 on_ok_two S P R Q f (Err e) s p t = tt
 
-pub on_err : {A E : Type 0} (P Q R S : Type 0) → (P → Q → R → S) → (r : Result A E) → OnErr r P → OnErr r Q → OnErr r R → OnErr r S
+on_err : {A E : Type 0} (P Q R S : Type 0) → (P → Q → R → S) → (r : Result A E) → OnErr r P → OnErr r Q → OnErr r R → OnErr r S
 on_err P Q R S f (Ok x) p q r = tt
 on_err P Q R S f (Err e) p q r = f p q r
 
@@ -97,7 +97,7 @@ twice n None = refl
 twice n (Some leg) = ap Some (twice_by n leg leg.completed)
 
 -- where an event isn't taken, nothing is seen of what it was made ready for
-pub left : (core after : Engine) (made noted ready : Made) → after ≡ core → noted ≡ passed_upto core.number made → ready.ended ≡ noted.ended → ready.current ≡ noted.current → explained_by after ready ≡ explained_by core made
+left : (core after : Engine) (made noted ready : Made) → after ≡ core → noted ≡ passed_upto core.number made → ready.ended ≡ noted.ended → ready.current ≡ noted.current → explained_by after ready ≡ explained_by core made
 left core after made noted ready same noted_is ended current =
     ap (λ (e : Engine). explained_by e ready) same
     ∙ (ap₂ (λ (es : List LegEnd) (o : Option LegEnd). (let seen : Explained = record { core = core; ended = es; current = option_map (end_upto core.number) o } in seen))
@@ -161,9 +161,24 @@ module _ (model : Rules) where
         }
 
     -- with an event that was noted
-    pub explained_noted : (made noted after : Made) → noted ≡ passed_upto old.number made → (IsMadeWith model run old noted → IsMadeWith model (plus run event) new after) → IsExplained model run (explained_by old made) → IsExplained model (plus run event) (explained_by new after)
+    explained_noted : (made noted after : Made) → noted ≡ passed_upto old.number made → (IsMadeWith model run old noted → IsMadeWith model (plus run event) new after) → IsExplained model run (explained_by old made) → IsExplained model (plus run event) (explained_by new after)
     explained_noted made noted after noted_is further is =
         let stands = step.reaches run is.stands in
         let before = made_same run old (made_in (explained_by old made)) noted (ap (λ (m : Made). m.ended) noted_is) (ap (λ (m : Made). m.current) noted_is) is.made in
         let now = upto_now model (plus run event) new after stands (further before) in
         record { stands = stands; made = made_same (plus run event) new (made_upto new.number after) (made_in (explained_by new after)) refl refl now }
+
+module _ (model : Rules) (event : Event) (old new : Engine) (made noted after : Made) (seen : Explained) (is_seen : explained_by old made ≡ seen) (noted_is : noted ≡ passed_upto old.number made) {E : Type 0} (result : Result Reply E) where
+  -- an event that was taken and noted
+  pub taken_explained : IfOk result (λ given. IsStep model (state_in old) event given (state_in new)) → OnOk result ((run : Run) → StandsIn model run (state_in old) → IsMadeWith model run old noted → IsMadeWith model (plus run event) new after)
+      → OnOk result ((run : Run) → IsExplained model run seen → IsExplained model (plus run event) (explained_by new after))
+  taken_explained =
+      on_ok _ _ _
+      (λ given step further. λ run is.
+      let kept = subst (IsExplained model run) (sym is_seen) is in
+      explained_noted model run event old new given step made noted after noted_is (further run kept.stands) kept)
+      result
+
+  -- or wasn't taken
+  pub taken_unchanged : OnErr result (new ≡ old) → OnErr result (after.ended ≡ noted.ended) → OnErr result (after.current ≡ noted.current) → OnErr result (explained_by new after ≡ seen)
+  taken_unchanged = on_err _ _ _ _ (λ same ended current. left old new made noted after same noted_is ended current ∙ is_seen) result

@@ -1,23 +1,21 @@
 -- Events that are neither scans nor control events are noted without verdicts.
-use Rattle.std.proofs.Common.{◌≡◌, ◌≢◌, ◌<◌, ◌+◌, ℕ, Bool, true, false, ◌&&◌, [], Option, Some, None, is_none, refl, sym, ap, ap₂, ◌∙◌}
+use Rattle.std.proofs.Common.{◌≡◌, ◌<◌, ◌+◌, ℕ, false, ◌&&◌, [], Option, Some, None, is_none, refl, sym, ap, ◌∙◌}
 use Rattle.std.specs.Option.{option_map}
 use Rattle.lp_model.specs.Rules.{Rules, IsLawful}
 use Rattle.lp_definitions.specs.declared.event.Event.{Event}
-use Rattle.lp_definitions.specs.declared.event.Event.TheVariants.{Walk, Stop}
-use Rattle.lp_definitions.specs.declared.refusal.Refusal.{Refusal}
 use Rattle.lp_definitions.specs.declared.reply.Reply.{Reply}
 use Rattle.lp_definitions.specs.Events.{is_control, is_scan}
 use Rattle.lp_definitions.specs.Leg.{State}
 use Rattle.lp_definitions.specs.Run.{Run, leg_of, plus}
-use Rattle.lp_machine.specs.Machine.{answer, refusal_of}
+use Rattle.lp_machine.specs.Machine.{answer}
 use Rattle.lp_machine.specs.Steps.{IsReply, StandsIn}
 use Rattle.lp_machine.specs.Table.{Engine, IsWide, state_in}
 use Rattle.lp_machine_laws.proofs.Steps.{does}
 use Rattle.lp_transition.specs.LastScan.{IsLastScanAfter}
 use Rattle.lp_transition.specs.Blames.{AreBlamesAfter, AreOfWaiting}
-use Rattle.lp_transition.specs.Weigh.{IsWeighed, HasBlamesAfter, Weighed, refusal_in}
+use Rattle.lp_transition.specs.Weigh.{IsWeighed, HasBlamesAfter, refusal_in}
 use Rattle.lp_transition.proofs.Told.{plain_tells}
-use Rattle.lp_transition.proofs.Weighing.{refused-as, verdicts-none}
+use Rattle.lp_transition.proofs.Weighing.{verdicts-none}
 use Rattle.lp_cert.specs.declared.open_leg.OpenLeg.{OpenLeg}
 use Rattle.lp_cert.specs.Ends.{Made, IsMadeWith, is_opening}
 use Rattle.lp_cert.specs.Invariant.{open_end}
@@ -30,27 +28,9 @@ pub plain_blames : (model : Rules) (e : Engine) (event : Event) (new : Engine) �
 plain_blames model e event new plain blames =
     record { verdicts = []; enough = verdicts-none model (state_in e) event plain; told = plain_tells model e event [] plain; blames = blames }
 
-pub control_unscanned : (event : Event) → is_control event ≡ true → is_scan event ≡ false
-control_unscanned Walk control = cc
-control_unscanned Stop control = cc
-control_unscanned _ control = refl
-
 -- an event that is no control event opens no leg
 pub opens_none : (model : Rules) (e : Engine) (event : Event) → is_control event ≡ false → is_opening (plain_step model e event) ≡ false
 opens_none model e event uncontrolled = ap (λ b. b && is_none (refusal_in (plain_step model e event).reply.what)) uncontrolled
-
--- an event that isn't an accepted control event opens no leg
-pub stays_in : (model : Rules) (e : Engine) (step : Weighed) → IsWeighed model e step → (is_control step.event ≡ true → refusal_of model (state_in e) step.event ≢ None) → is_opening step ≡ false
-stays_in model e step weighed refused =
-    by (is_control step.event) (refusal_of model (state_in e) step.event) refl refl
-  where
-    told : refusal_in step.reply.what ≡ refusal_of model (state_in e) step.event
-    told = ap (λ (r : Reply). refusal_in r.what) weighed.reply ∙ refused-as model (state_in e) step.event
-
-    by : (b : Bool) (o : Option Refusal) → is_control step.event ≡ b → refusal_of model (state_in e) step.event ≡ o → is_opening step ≡ false
-    by false o plain is = ap (λ b. b && is_none (refusal_in step.reply.what)) plain
-    by true (Some why) control is = ap₂ (λ b (o : Option Refusal). b && is_none o) control (told ∙ is)
-    by true None control is = absurd (refused control is)
 
 -- the leg under way after such an event
 abbrev pub HasGoneOn : Rules → Engine → Event → ℕ → (old new : Option OpenLeg) → (before after : WaitingGroups) → Type 0
@@ -67,10 +47,6 @@ module _ (model : Rules) (lawful : IsLawful model) (run : Run) (e : Engine) (sta
 
   pub weighed : is_scan event ≡ false → e.number < 1000000 → IsWeighed model e (plain_step model e event)
   weighed unscanned room = record { room = room; reply = refl; verdicts = verdicts-none model (state_in e) event unscanned; told = plain_tells model e event [] unscanned }
-
-  -- an accepted control event opens a leg
-  pub turns : is_control event ≡ true → refusal_of model (state_in e) event ≡ None → is_opening (plain_step model e event) ≡ true
-  turns control accepted = ap₂ (λ a b. a && b) control (ap is_none (refused-as model (state_in e) event ∙ accepted))
 
   module _ (unscanned : is_scan event ≡ false) (stays : is_opening (plain_step model e event) ≡ false) (room : e.number < 1000000) (wide : IsWide e.table) (of_waiting : AreOfWaiting e) where
     -- what is made of the run with the event more

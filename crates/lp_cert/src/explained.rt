@@ -1,7 +1,6 @@
 //! An engine that explains itself: the maker of certificates notes each event as the engine takes it.
 ghost use Rattle.std.specs.Prelude.{◌≡◌, ◌++◌, ◌<◌, [], None, true, false, is_some, option_to_list, IfOk, OnErr, OnOk};
 ghost use Rattle.std.specs.Option.{option_map};
-ghost use Rattle.lp_definitions.specs.Events.{is_scan};
 ghost use Rattle.lp_definitions.specs.Run.{Run, plus};
 ghost use Rattle.lp_machine.specs.Steps.{IsStep, StandsIn};
 ghost use Rattle.lp_machine.specs.Table.{state_in};
@@ -71,10 +70,13 @@ impl<M: Consistency> ExplainedCore<M> {
             return core.step_plain(alloc, event);
         }
         self.maker.note_passed(core);
+        if event.is_control() {
+            return take_weighed(alloc, core, &mut self.maker, event);
+        }
         match event {
             Event::Walk => take_scan(alloc, core, &mut self.maker, CheckKind::Walk, event),
             Event::Stop => take_scan(alloc, core, &mut self.maker, CheckKind::Stop, event),
-            _ => take_other(alloc, core, &mut self.maker, event),
+            _ => self.maker.take_plain(alloc, core, event),
         }
     }
 
@@ -168,8 +170,8 @@ fn take_scan<M: Consistency>(
     take_weighed(alloc, core, maker, event)
 }
 
-/// Takes a scan that has to ask somebody, by those alone to whom something happened since the last one. Out of line, so that others
-/// pay nothing for what it needs.
+/// Takes an event that is weighed first: one that may open a leg, and a scan that has to ask somebody, by those alone to whom something
+/// happened since the last one. Out of line, so that others pay nothing for what it needs.
 #[inline(never)]
 fn take_weighed<M: Consistency>(
     alloc: Global,
@@ -177,7 +179,6 @@ fn take_weighed<M: Consistency>(
     maker: &mut Maker,
     event: Event,
 ) -> Result<Reply, AllocError>
-    requires scan { is_scan event ≡ true }
     requires room { core.old.number < 1000000 }
     ensures step { IfOk result (λ reply. IsStep M.rules (state_in core.old) event reply (state_in core.new)) }
     ensures made { OnOk result ((run : Run) → StandsIn M.rules run (state_in core.old) → IsMadeWith M.rules run core.old maker.old → IsMadeWith M.rules (plus run event) core.new maker.new) }
@@ -201,28 +202,4 @@ fn take_weighed<M: Consistency>(
             Err(error)
         }
     }
-}
-
-/// Takes an event that is neither quiet nor a scan: a control event that is accepted opens a leg. Out of line, so that others pay
-/// nothing for what it needs.
-#[inline(never)]
-fn take_other<M: Consistency>(
-    alloc: Global,
-    core: &mut Core<M>,
-    maker: &mut Maker,
-    event: Event,
-) -> Result<Reply, AllocError>
-    requires plain { is_scan event ≡ false }
-    requires room { core.old.number < 1000000 }
-    ensures step { IfOk result (λ reply. IsStep M.rules (state_in core.old) event reply (state_in core.new)) }
-    ensures made { OnOk result ((run : Run) → StandsIn M.rules run (state_in core.old) → IsMadeWith M.rules run core.old maker.old → IsMadeWith M.rules (plus run event) core.new maker.new) }
-    ensures blames { OnOk result (HasBlamesAfter M.rules core.old event core.new) }
-    ensures unchanged { OnErr result (core.new ≡ core.old) }
-    ensures ended { OnErr result (maker.new.ended ≡ maker.old.ended) }
-    ensures current { OnErr result (maker.new.current ≡ maker.old.current) }
-{
-    if event.is_control() && core.refusal(event).is_none() {
-        return maker.open_leg(alloc, core, event);
-    }
-    maker.take_plain(alloc, core, event)
 }

@@ -11,7 +11,6 @@ ghost use Rattle.lp_cert.specs.inside.OwnEffects.{HasOwnRoom};
 ghost use Rattle.lp_cert.specs.inside.Waiters.{lines_at};
 ghost use Rattle.std.specs.Option.{option_map};
 
-mod control;
 mod plain;
 mod quiet_scan;
 

@@ -1,12 +1,11 @@
-//! Events that are no scans and open no leg, which needn't be weighed first: of these the quiet ones pass, and are noted
+//! Events that are neither scans nor control events, which needn't be weighed first: of these the quiet ones pass, and are noted
 //! together once they are over.
-ghost use Rattle.std.specs.Prelude.{◌≡◌, ◌≢◌, ◌+◌, ◌<◌, ℕ, Bool, true, false, None, is_some, IfOk, OnErr, OnOk};
+ghost use Rattle.std.specs.Prelude.{◌≡◌, ◌+◌, ◌<◌, ℕ, Bool, true, false, None, is_some, IfOk, OnErr, OnOk};
 ghost use Rattle.lp_definitions.specs.Events.{is_control, is_scan};
 ghost use Rattle.lp_definitions.specs.Run.{Run, plus};
 ghost use Rattle.lp_definitions.specs.TaskEvents.{is_quiet};
 ghost use Rattle.lp_definitions.specs.declared.event.Event.{Event};
 ghost use Rattle.lp_model.specs.Rules.{Rules};
-ghost use Rattle.lp_machine.specs.Machine.{refusal_of};
 ghost use Rattle.lp_machine.specs.Steps.{IsStep, StandsIn};
 ghost use Rattle.lp_machine.specs.Table.{Engine, state_in};
 ghost use Rattle.lp_transition.specs.LastScan.{used_scan};
@@ -45,9 +44,11 @@ impl Maker {
         self.noted = core.events() as u32;
     }
 
-    /// Lets the engine take an event that is no scan and opens no leg, and notes it. What it does to the groups that wait is told
+    /// Lets the engine take an event that is neither a scan nor a control event, and notes it. What it does to the groups that wait is told
     /// before, as they stand then; where no transition is under way the end of the leg stays as it is. AllocError where an
-    /// allocation failed, and then the engine and the certificates are as they were.
+    /// allocation failed, and then the engine and the certificates are as they were. Out of line, so that others pay nothing for
+    /// what it needs.
+    #[inline(never)]
     pub(crate) fn take_plain<M: Consistency>(
         &mut self,
         alloc: Global,
@@ -56,7 +57,7 @@ impl Maker {
     ) -> Result<Reply, AllocError>
         requires room { core.old.number < 1000000 }
         requires plain { is_scan event ≡ false }
-        requires stays { is_control event ≡ true → refusal_of M.rules (state_in core.old) event ≢ None }
+        requires uncontrolled { is_control event ≡ false }
         ensures step { IfOk result (λ reply. IsStep M.rules (state_in core.old) event reply (state_in core.new)) }
         ensures made { OnOk result ((run : Run) → StandsIn M.rules run (state_in core.old) → IsMadeWith M.rules run core.old self.old → IsMadeWith M.rules (plus run event) core.new self.new) }
         ensures blames { OnOk result (HasBlamesAfter M.rules core.old event core.new) }

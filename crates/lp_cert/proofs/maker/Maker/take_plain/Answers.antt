@@ -7,7 +7,7 @@ use Rattle.lp_cert.specs.Invariant.{open_end, room_of}
 use Rattle.lp_cert.specs.inside.Invariant.{plain_step}
 use Rattle.lp_cert.proofs.Making.{open_end_same}
 use Rattle.lp_transition.proofs.Told.{plain_unused}
-use Rattle.lp_cert.proofs.PlainEvents.{plain_blames, plain_made, replied, stays_in, weighed}
+use Rattle.lp_cert.proofs.PlainEvents.{opens_none, plain_blames, plain_made, replied}
 use Rattle.lp_cert.proofs.Settled.{rested}
 use Rattle.lp_cert.proofs.maker.Maker.take_plain.Goals as goal
 
@@ -24,7 +24,7 @@ returns-then-is_settled-clause-made g c = λ run stands is.
     let old : Made = record { ended = i.ended.ends; current = option_map (open_end i.noted i.waiters) i.current; ready = option_map room_of i.ready } in
     let new : Made = record { ended = i.ended.ends; current = option_map (open_end number i.waiters) i.current; ready = None } in
     let was : IsMadeWith model run c.args.core.now old = rw (← c.self.view_is) at is in
-    let stays = stays_in model c.args.core.now (plain_step model c.args.core.now event) (weighed model g.met.M.Consistency.lawful run c.args.core.now stands event c.requires.plain c.requires.room) c.requires.stays in
+    let stays = opens_none model c.args.core.now event c.requires.uncontrolled in
     rested model g.met.M.Consistency.lawful run c.args.core.now stands event c.requires.plain stays c.requires.room c.events.ensures.wide c.events.ensures.blamed old new was c.step_plain.new.self (step.reaches run stands) (plain_blames model c.args.core.now event c.step_plain.new.self c.requires.plain c.in_ok-reply.ensures.blames) c.in_ok-reply.ensures.last_scan refl
     i.noted number i.waiters (ap (λ m. m + 1) c.events.ensures.value) i.current (sym c.is_settled.ensures ∙ c.if-is_settled.true) refl refl
 
@@ -40,7 +40,7 @@ returns-in_default-clause-made g c = λ run stands is.
     let old : Made = record { ended = i.ended.ends; current = option_map (open_end i.noted i.waiters) i.current; ready = option_map room_of i.ready } in
     let new : Made = record { ended = i.ended.ends; current = option_map (open_end number later) i.current; ready = None } in
     let was : IsMadeWith model run e old = rw (← c.self.view_is) at is in
-    let stays = stays_in model e (plain_step model e event) (weighed model g.met.M.Consistency.lawful run e stands event c.requires.plain c.requires.room) c.requires.stays in
+    let stays = opens_none model e event c.requires.uncontrolled in
     plain_made model g.met.M.Consistency.lawful run e stands event c.requires.plain stays c.requires.room c.events.ensures.wide c.events.ensures.blamed old new was c.step_plain-2.new.self (step.reaches run stands) (plain_blames model c.args.core.now event c.step_plain-2.new.self c.requires.plain c.in_ok-reply-2.ensures.blames) c.in_ok-reply-2.ensures.last_scan refl
     i.noted number (ap (λ m. m + 1) c.events.ensures.value) i.waiters later None None tt
     (ap (option_map (open_end i.noted i.waiters)) c.in_default.is) (ap (option_map (open_end number later)) c.in_default.is)
@@ -60,7 +60,7 @@ returns-clause-made g c = λ run stands is.
     let new : Made = record { ended = i.ended.ends; current = Some (open_end number later c.affect_leg.new.leg); ready = None } in
     let was : IsMadeWith model run e old = rw (← c.self.view_is) at is in
     let answers = replied model g.met.M.Consistency.lawful run e stands event c.in_ok-reply-2.reply step.replies in
-    let stays = stays_in model e (plain_step model e event) (weighed model g.met.M.Consistency.lawful run e stands event c.requires.plain c.requires.room) c.requires.stays in
+    let stays = opens_none model e event c.requires.uncontrolled in
     plain_made model g.met.M.Consistency.lawful run e stands event c.requires.plain stays c.requires.room c.events.ensures.wide c.events.ensures.blamed old new was c.step_plain-2.new.self (step.reaches run stands) (plain_blames model c.args.core.now event c.step_plain-2.new.self c.requires.plain c.in_ok-reply-2.ensures.blames) c.in_ok-reply-2.ensures.last_scan refl
     i.noted number (ap (λ m. m + 1) c.events.ensures.value) waiters later (Some c.in-Some.leg) (Some c.affect_leg.new.leg)
     (c.affect_leg.ensures model e (plain_step model e event) (has_frame_in (state_in e)) (plain_unused model event c.requires.plain) (c.own_effect-effect.ensures.lines []) c.own_effect-effect.ensures.told c.own_effect-effect.ensures.few answers)
