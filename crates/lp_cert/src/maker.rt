@@ -106,20 +106,18 @@ impl Maker {
         ensures ready { OnOk result (self.new.ready ≡ Some (room_for step.now)) }
     {
         self.ready = None;
-        let verdicts = step.verdicts().len();
-        self.waiters.reserve(verdicts.max(OWN_REASONS))?;
-        let opens = opens_leg(step.event(), &step.reply().what);
         let ready = Ready {
             event: step.event(),
-            opens,
-            verdicts,
+            opens: opens_leg(step.event(), &step.reply().what),
+            verdicts: step.verdicts().len(),
         };
-        if opens {
+        if ready.opens {
             self.ended
                 .close(alloc, self.current, self.noted, &self.waiters)?;
             self.ready = Some(ready);
             return Ok(());
         }
+        self.waiters.reserve(ready.verdicts.max(OWN_REASONS))?;
         self.ready = Some(ready);
         Ok(())
     }

@@ -23,13 +23,16 @@ use Rattle.lp_cert.specs.Invariant.{open_end}
 abbrev pub waiting_cert : Claim → (leg upto : ℕ) → GroupId → List Line → Cert
 waiting_cert claim leg upto group lines = record { claim = claim; leg = leg; group = group; upto = upto; lines = reverse lines }
 
--- there is room for the event: for its reasons and its scan; and if it opens a leg, the end of the one under way is made
+-- there is room for the reasons that an event adds, which so many verdicts answer, and for its scan
+pub record HasNoteRoom (verdicts : ℕ) (waiters : WaitingGroups) : Type 0 where
+  pub own : 1 < waiters.reasons.room
+  pub found : verdicts ≤ waiters.reasons.room
+  pub scan : 0 < waiters.reasons.scan_room
+
+-- if the event opens a leg, the end of the one under way is made, and else there is room for what it adds
 pub record IsReady (noted : ℕ) (current : Option OpenLeg) (waiters : WaitingGroups) (ended : KeptEnds) (ready : Ready) : Type 0 where
-  pub room : 1 < waiters.reasons.room
-  pub scan_room : 0 < waiters.reasons.scan_room
-  -- and for what the verdicts of a scan find
-  pub verdict_room : ready.verdicts ≤ waiters.reasons.room
   pub left : ready.opens ≡ true → ended.closing ≡ option_map (open_end noted waiters) current
+  pub room : ready.opens ≡ false → HasNoteRoom ready.verdicts waiters
 
 abbrev pub IfReady : ℕ → Option OpenLeg → WaitingGroups → KeptEnds → Option Ready → Type 0
 IfReady noted current waiters ended None = Unit {0}

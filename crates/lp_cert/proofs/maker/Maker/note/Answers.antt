@@ -17,7 +17,7 @@ note_leg-requires-clause-own_room g c =
     let i = c.self.inside in
     let kept : i.ready ≡ Some c.in-Some.ready = sym c.take.ensures.value ∙ c.in-Some.is in
     let ready = ready_for i.noted i.current i.waiters _ i.ready c.in-Some.ready c.self.invariant kept in
-    own_room c.args.step.now.event i.waiters ready.room
+    own_room c.args.step.now.event i.waiters (ready.room (not_so c.in-Some.ready.opens c.if-not-ready.true)).own
 
 pub note_leg-requires-clause-room : goal.note_leg-requires-clause-room
 note_leg-requires-clause-room g c =
@@ -25,7 +25,7 @@ note_leg-requires-clause-room g c =
     let kept : i.ready ≡ Some c.in-Some.ready = sym c.take.ensures.value ∙ c.in-Some.is in
     let asked = rw (← c.self.view_is) at c.requires.ready in
     let ready = ready_for i.noted i.current i.waiters _ i.ready c.in-Some.ready c.self.invariant kept in
-    subst (λ n. n ≤ i.waiters.reasons.room) (ap (λ (r : Room). r.verdicts) (room_is i.ready c.in-Some.ready (room_for c.args.step.now) kept asked)) ready.verdict_room
+    subst (λ n. n ≤ i.waiters.reasons.room) (ap (λ (r : Room). r.verdicts) (room_is i.ready c.in-Some.ready (room_for c.args.step.now) kept asked)) (ready.room (not_so c.in-Some.ready.opens c.if-not-ready.true)).found
 
 pub returns-in_default-current : goal.returns-in_default-current
 returns-in_default-current g c = record {
@@ -87,7 +87,11 @@ pub invariant_of-self-then-not-ready : goal.invariant_of-self-then-not-ready
 invariant_of-self-then-not-ready g c = grind (arith, common_steps)
 
 pub note_leg-requires-clause-scan_room : goal.note_leg-requires-clause-scan_room
-note_leg-requires-clause-scan_room g c = grind (arith, common_steps)
+note_leg-requires-clause-scan_room g c =
+    let i = c.self.inside in
+    let kept : i.ready ≡ Some c.in-Some.ready = sym c.take.ensures.value ∙ c.in-Some.is in
+    let ready = ready_for i.noted i.current i.waiters _ i.ready c.in-Some.ready c.self.invariant kept in
+    (ready.room (not_so c.in-Some.ready.opens c.if-not-ready.true)).scan
 
 pub note_leg-requires-clause-weighed : goal.note_leg-requires-clause-weighed
 note_leg-requires-clause-weighed g c = c.requires.weighed

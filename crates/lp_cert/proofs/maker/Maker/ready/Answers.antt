@@ -8,16 +8,6 @@ returns-in_err-reserve-clause-current g c =
     let i = c.self.inside in
     rw (← c.self.view_is) (open_end_same c.reserve.new.self i.waiters c.reserve.ensures.groups c.reserve.ensures.heads i.noted c.reserve.ensures.lists c.reserve.ensures.scans i.current)
 
-pub returns-in_err-close-clause-current : goal.returns-in_err-close-clause-current
-returns-in_err-close-clause-current g c =
-    let i = c.self.inside in
-    rw (← c.self.view_is) (open_end_same c.reserve.new.self i.waiters c.reserve.ensures.groups c.reserve.ensures.heads i.noted c.reserve.ensures.lists c.reserve.ensures.scans i.current)
-
-pub returns-then-opens-clause-current : goal.returns-then-opens-clause-current
-returns-then-opens-clause-current g c =
-    let i = c.self.inside in
-    rw (← c.self.view_is) (open_end_same c.reserve.new.self i.waiters c.reserve.ensures.groups c.reserve.ensures.heads i.noted c.reserve.ensures.lists c.reserve.ensures.scans i.current)
-
 pub returns-clause-current : goal.returns-clause-current
 returns-clause-current g c =
     let i = c.self.inside in
