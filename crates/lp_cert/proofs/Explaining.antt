@@ -14,7 +14,7 @@ use Rattle.lp_definitions.specs.Run.{Run, and_then, first_leg, leg_after, leg_of
 use Rattle.lp_machine.specs.Steps.{IsStep, StandsIn}
 use Rattle.lp_machine.specs.Table.{Engine, state_in}
 use Rattle.lp_transition.specs.Blames.{blame_of}
-use Rattle.lp_transition.specs.Weigh.{HasBlamesAfter}
+use Rattle.lp_transition.specs.Weigh.{HasToldBlamesAfter}
 use Rattle.lp_transition.specs.LastScan.{IsLastScanAfter}
 use Rattle.lp_cert.specs.Ends.{Made, IsMadeFurther, IsMadeWith, cert_upto, end_upto, floor_in, is_complete_in, made_upto, passed_upto, waiting_in}
 use Rattle.lp_cert.specs.Explained.{Explained, IsExplained, made_in}
@@ -149,7 +149,7 @@ module _ (model : Rules) where
 
   module _ (run : Run) (event : Event) (old new : Engine) (given : Reply) (step : IsStep model (state_in old) event given (state_in new)) where
     -- with an event that passed
-    pub explained_passed : (made : Made) → HasBlamesAfter model old event new → IsLastScanAfter model old event new → IsMadeFurther model old event (made_upto old.number made) (made_upto (old.number + 1) made) → IsExplained model run (explained_by old made) → IsExplained model (plus run event) (explained_by new made)
+    pub explained_passed : (made : Made) → HasToldBlamesAfter model old event new → IsLastScanAfter model old event new → IsMadeFurther model old event (made_upto old.number made) (made_upto (old.number + 1) made) → IsExplained model run (explained_by old made) → IsExplained model (plus run event) (explained_by new made)
     explained_passed made blames last_scan further is =
         let after = step.reaches run is.stands in
         let before = made_same run old (made_in (explained_by old made)) (made_upto old.number made) refl refl is.made in

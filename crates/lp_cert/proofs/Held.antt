@@ -1,11 +1,8 @@
 -- After an event that opens no leg the standing blame of each group that waits is the hold of its newest line, if it was so before.
-use Rattle.std.proofs.Common.{◌≡◌, ◌⊎◌, ◌≤◌, ◌<◌, ℕ, suc, Bool, true, false, not, ◌&&◌, List, [], ◌∷◌, length, Option, Some, None, is_none, IsTrue, IsFalse, if◌then◌else◌, nat_eq, nat_lt, refl, sym, ap, ap₂, subst, inl, inr, ◌∙◌, ⊎_elim, arith}
+use Rattle.std.proofs.Common.{◌≡◌, ◌⊎◌, ◌≤◌, ◌<◌, ℕ, suc, Bool, true, false, not, ◌&&◌, List, [], ◌∷◌, length, Option, Some, None, is_none, IsTrue, if◌then◌else◌, nat_eq, nat_lt, refl, sym, ap, ap₂, subst, inl, inr, ◌∙◌, ⊎_elim, arith}
 use Rattle.std.specs.List.{list_any}
 use Rattle.std.specs.Option.{option_map}
 use Rattle.std.proofs.lemmas.Bool.{false≢true, cond-true, cond-false, cases_Bool, and_parts, and_from, eq-eqb, eqb-true, ltb-false}
-use Rattle.std.proofs.lemmas.List.Elements.{All-contains}
-use Rattle.std.proofs.lemmas.List.Folds.{Any-from_list_any}
-use Rattle.lp_stack.specs.declared.frame.Frame.{Frame}
 use Rattle.lp_stack.specs.declared.number.TaskId.{TaskId}
 use Rattle.lp_numbers.specs.Numbers.{has}
 use Rattle.lp_model.specs.Rules.{Rules, IsLawful}
@@ -19,7 +16,6 @@ use Rattle.lp_machine.specs.declared.standing_blame.StandingBlame.{StandingBlame
 use Rattle.lp_definitions.specs.declared.event.Event.{Event}
 use Rattle.lp_definitions.specs.declared.event.Event.TheVariants.{Call, Ret, Sleep, Wake, Enter, Exit, Idle, Resched, Fork, Die, Walk, Stop, Enable, Disable, Reverse}
 use Rattle.lp_definitions.specs.declared.line.Line.{Line}
-use Rattle.lp_definitions.specs.declared.line.Line.TheVariants as line
 use Rattle.lp_definitions.specs.declared.refusal.Refusal.{Refusal}
 use Rattle.lp_definitions.specs.Certificates.{after_check, birth_line, lines}
 use Rattle.lp_definitions.specs.Events.{is_control}
@@ -33,10 +29,10 @@ use Rattle.lp_machine.specs.Table.{Engine, IsWide, state_in}
 use Rattle.lp_machine.proofs.EngineLemmas.{next-refused}
 use Rattle.lp_machine_laws.proofs.Steps.{refusal_is}
 use Rattle.lp_tasks.proofs.TableLemmas.{slot_from_live}
-use Rattle.lp_transition.specs.Blames.{blame_of, is_open, has_frame_in, blame_in, first_blamed_in, own_blame, refused_first, frame_blame, while_there, or_blame, blame_by, AreOfWaiting}
+use Rattle.lp_transition.specs.Blames.{blame_of, is_open, has_frame_in, first_blamed_in, own_blame, refused_first, frame_blame, while_there, or_blame, blame_by, AreOfWaiting}
 use Rattle.lp_transition.specs.LastScan.{used_scan}
-use Rattle.lp_transition.specs.Scan.{scan_event, is_of, first_refused, AreEnough}
-use Rattle.lp_transition.specs.Weigh.{AreVerdictsFor, HasBlamesAfter, IsKnown}
+use Rattle.lp_transition.specs.Scan.{scan_event, is_of, first_refused}
+use Rattle.lp_transition.specs.Weigh.{AreVerdictsFor, HasToldBlamesAfter, IsKnown}
 use Rattle.lp_transition.proofs.Admitted.{enough_for}
 use Rattle.lp_transition.proofs.Readers.{frames_stay}
 use Rattle.lp_transition.proofs.ScanTakes.{group_fits}
@@ -46,18 +42,13 @@ use Rattle.lp_cert.specs.EventLines.{is_fork, is_resched, lines_after_fork, line
 use Rattle.lp_cert.specs.Unchanged.{AreHeld, AreUnchangedBy, AreUnchangedSince, IsHeldBy, IsUnchanged, hold_of}
 use Rattle.lp_cert.proofs.Frames.{IsFrom, frame_before, has_serial, own_from}
 use Rattle.lp_cert.proofs.HeldLines.{IsThere, check_held, later_held, same_held}
-use Rattle.lp_cert.proofs.HoldNames.{first_at}
 use Rattle.lp_cert.proofs.NextLines.{lines_at_fork, lines_at_own_check, lines_at_scan}
 use Rattle.lp_cert.proofs.OtherEvents.{lines_at_refused}
 use Rattle.lp_cert.proofs.OwnChecks.{lone_blamed}
-use Rattle.lp_cert.proofs.ScanTold.{none_refused_of}
 use Rattle.lp_cert.proofs.UnchangedEvents.{after_is, fork_new, lines_same, no_control, not_the_childs, next_is}
-use Rattle.lp_cert.proofs.UnchangedScans.{frame_there, is_waiting, scan_free, scan_own}
+use Rattle.lp_cert.proofs.UnchangedScans.{is_waiting, scan_free, scan_own}
 use Rattle.lp_cert.proofs.UnchangedSteps.{no_scan, scan_is, used_none}
-use Rattle.lp_cert.proofs.VerdictLines.{verdicts_tell}
-
-some_none : {A : Type 0} (a : A) → Some a ≡ None → ⊥
-some_none a e = absurd (cc)
+use Rattle.lp_cert.proofs.FoundBlames.{some_none, blamed_there, unused_found, used_found}
 
 -- a blame whose frame is there still stands
 kept_there : (s : State) (b : Option StandingBlame) (o : Option StandingBlame) → b ≡ while_there s o → while_there s b ≡ b
@@ -72,94 +63,6 @@ kept_there s b (Some c) is = by (has_frame_in s c.task.0 c.serial) refl
         let none = is ∙ cond-false (has_frame_in s c.task.0 c.serial) (Some c) None gone in
         ap (while_there s) none ∙ sym none
 
--- ---- Whom a check blames
-
--- at a check that the model doesn't use no frame is blamed
-unused_blames : (model : Rules) → IsLawful model → (s : State) (on : CheckKind) (g : ℕ) → IsFalse (model.uses on) → (first : Option (ℕ × Blame)) → first_blamed_in model s on g ≡ first → frame_blame first ≡ None
-unused_blames model lawful s on g unused None first = refl
-unused_blames model lawful s on g unused (Some (u, blame.Busy)) first = refl
-unused_blames model lawful s on g unused (Some (u, blame.Unused)) first = refl
-unused_blames model lawful s on g unused (Some (u, blame.Frame serial)) first =
-    absurd (at (s.tasks u) (first_at (blame_in model s on g) (u, blame.Frame serial) 1 s.bounds.tasks first))
-  where
-    asked : Fate LegTask → Option Blame
-    asked fate = on_live None (λ (y : LegTask). if nat_eq y.group g then model.blame on (view_of u y) s.aim else None) fate
-
-    member : (y : LegTask) (b : Bool) → nat_eq y.group g ≡ b → asked (Live y) ≡ Some (blame.Frame serial) → ⊥
-    member y true mine told =
-        let both : Some blame.Unused ≡ Some (blame.Frame serial) = sym (lawful.blames_unused on (view_of u y) s.aim unused) ∙ (sym (cond-true (nat_eq y.group g) (model.blame on (view_of u y) s.aim) None mine) ∙ told) in
-        absurd (cc)
-    member y false other told = some_none (blame.Frame serial) (sym told ∙ cond-false (nat_eq y.group g) (model.blame on (view_of u y) s.aim) None other)
-
-    at : (fate : Fate LegTask) → asked fate ≡ Some (blame.Frame serial) → ⊥
-    at Unused told = some_none (blame.Frame serial) (sym told)
-    at Dead told = some_none (blame.Frame serial) (sym told)
-    at (Live y) told = member y (nat_eq y.group g) refl told
-
--- a frame that is there is no later than the state
-frame_past : (s : State) → IsSound s → (u serial : ℕ) → has_frame_in s u serial ≡ true → serial ≤ s.number
-frame_past s sound u serial there = by (s.tasks u) refl
-  where
-    by : (fate : Fate LegTask) → s.tasks u ≡ fate → serial ≤ s.number
-    by Unused is = absurd (false≢true (sym (ap (has_serial serial) is) ∙ there))
-    by Dead is = absurd (false≢true (sym (ap (has_serial serial) is) ∙ there))
-    by (Live y) is =
-        let some = Any-from_list_any (λ (f : Frame). nat_eq f.serial serial) y.frames (sym (ap (has_serial serial) is) ∙ there) in
-        let past : some.1.serial ≤ s.number = All-contains (λ (f : Frame). f.serial ≤ s.number) y.frames some.1 (sound.serials_past u y is) (some.0, some.2, some.3) in
-        let same : some.1.serial ≡ serial = eqb-true some.1.serial serial some.4 in
-        omega (arith, past, same)
-
--- whom a check that the model uses blames for a frame has it
-blamed_there : (model : Rules) → IsLawful model → (s : State) → IsSound s → (on : CheckKind) → IsTrue (model.uses on) → (g : ℕ) (first : Option (ℕ × Blame)) → first_blamed_in model s on g ≡ first → IsThere s first
-blamed_there model lawful s sound on used g first is u serial some =
-    let has = frame_there model lawful s on used g (u, blame.Frame serial) (is ∙ some) serial refl in
-    (has, frame_past s sound u serial has)
-
--- ---- What the engine finds of a group
-
-module _ (model : Rules) (lawful : IsLawful model) (s : State) (sound : IsSound s) (on : CheckKind) (g : ℕ) (waits : IsTrue (waits_in s g)) (vs : List Verdict) (enough : AreEnough model on s vs) where
-  -- verdicts of its members find what a look at all finds
-  by_verdict : list_any (is_of s g) vs ≡ true → first_refused s g vs ≡ first_blamed_in model s on g
-  by_verdict some = enough.first g some ∙ verdicts_tell model s sound on g waits
-
-  -- without any, nothing is found
-  found_or_none : (first_refused s g vs ≡ first_blamed_in model s on g) ⊎ (first_refused s g vs ≡ None)
-  found_or_none =
-      ⊎_elim
-      (λ (some : list_any (is_of s g) vs ≡ true). inl (by_verdict some))
-      (λ (none : list_any (is_of s g) vs ≡ false). inr (none_refused_of s g vs none))
-      (cases_Bool (list_any (is_of s g) vs))
-
-  -- at a check that the model doesn't use no frame is found
-  pub unused_found : IsFalse (model.uses on) → frame_blame (first_refused s g vs) ≡ None
-  unused_found unused =
-      ⊎_elim
-      (λ (same : first_refused s g vs ≡ first_blamed_in model s on g). ap frame_blame same ∙ unused_blames model lawful s on g unused (first_blamed_in model s on g) refl)
-      (λ (none : first_refused s g vs ≡ None). ap frame_blame none)
-      found_or_none
-
-  -- at one that it uses the blame is as if all were looked at: it stands already, or the group is told of, or is busy still
-  pub used_found : (b : Option StandingBlame) (ls : List Line) → IsHeldBy s ls b → (list_any (is_of s g) vs ≡ true) ⊎ ((is_none b ≡ false) ⊎ IsUnchanged model on s g ls) → or_blame b (frame_blame (first_refused s g vs)) ≡ or_blame b (frame_blame (first_blamed_in model s on g))
-  used_found b ls held told =
-      ⊎_elim
-      (λ (some : list_any (is_of s g) vs ≡ true). ap (λ o. or_blame b (frame_blame o)) (by_verdict some))
-      (λ (known : (is_none b ≡ false) ⊎ IsUnchanged model on s g ls). ⊎_elim (stands b) (unchanged ls held) known)
-      told
-    where
-      stands : (o : Option StandingBlame) → is_none o ≡ false → or_blame o (frame_blame (first_refused s g vs)) ≡ or_blame o (frame_blame (first_blamed_in model s on g))
-      stands None out = absurd (false≢true (sym out))
-      stands (Some c) out = refl
-
-      unchanged : (ms : List Line) → IsHeldBy s ms b → IsUnchanged model on s g ms → or_blame b (frame_blame (first_refused s g vs)) ≡ or_blame b (frame_blame (first_blamed_in model s on g))
-      unchanged [] is h = absurd h
-      unchanged (line.Born g2 p at ∷ older) is h = absurd h
-      unchanged (line.Hold g2 task serial from to ∷ older) is h = stands b (ap is_none (is.blamed ∙ cond-true (has_frame_in s task.0 serial) (Some (record { task = task; serial = serial })) None h))
-      unchanged (line.Busy g2 task at ∷ older) is h =
-          ⊎_elim
-          (λ (same : first_refused s g vs ≡ first_blamed_in model s on g). ap (λ o. or_blame b (frame_blame o)) same)
-          (λ (none : first_refused s g vs ≡ None). ap (λ o. or_blame b (frame_blame o)) none ∙ sym (ap (λ o. or_blame b (frame_blame o)) h))
-          found_or_none
-
 -- ---- After an event
 
 -- where the frames of the tasks are the same
@@ -167,7 +70,7 @@ frames_same : (s t : State) → s.tasks ≡ t.tasks → (has_frame_in s) ≡ (ha
 frames_same s t same = ap (λ (tasks : ℕ → Fate LegTask). λ u serial. has_serial serial (tasks u)) same
 
 module _ (model : Rules) (lawful : IsLawful model) (e : Engine) (sound : IsSound (state_in e)) (wide : IsWide e.table) (of_waiting : AreOfWaiting e) (leg : Leg) (leg_sound : IsSound leg.opening) (there : state_in e ≡ state_of model leg) (event : Event)
-    (stays : opens model leg event ≡ false) (after : Engine) (there_after : state_in after ≡ state_of model (and_then leg event)) (blames : HasBlamesAfter model e event after)
+    (stays : opens model leg event ≡ false) (after : Engine) (there_after : state_in after ≡ state_of model (and_then leg event)) (blames : HasToldBlamesAfter model e event after)
     (was_unchanged : AreUnchangedBy model (state_in e) (lines model leg (length leg.events)) e.last_scan) (was : AreHeld (state_in e) (lines model leg (length leg.events)) e) where
   abbrev n : ℕ
   n = length leg.events

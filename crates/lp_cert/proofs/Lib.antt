@@ -25,6 +25,7 @@ pub mod UnchangedChecks
 pub mod UnchangedEvents
 pub mod Frames
 pub mod HeldLines
+pub mod FoundBlames
 pub mod Held
 pub mod UnchangedScans
 pub mod Bare
@@ -33,7 +34,9 @@ pub mod Keeping
 pub mod KeptCerts
 pub mod Making
 pub mod BareLines
+pub mod LegCerts
 pub mod Noted
+pub mod Readied
 pub mod PlainEvents
 pub mod LegSteps
 pub mod OwnEffects

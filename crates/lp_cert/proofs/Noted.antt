@@ -1,6 +1,5 @@
 -- What is made of a run, after one event more.
-use Rattle.std.proofs.Common.{◌≡◌, ℕ, suc, ◌+◌, ◌-◌, ◌<◌, Bool, true, false, not, ◌&&◌, ◌||◌, List, [], ◌∷◌, ◌++◌, length, map, filter, take, drop, Option, Some, None, is_none, option_to_list, if◌then◌else◌, nat_eq, refl, sym, ap, ap₂, subst, ◌∙◌, ⊎_elim, arith, append-nil, append_assoc, length-append}
-use mathlib.Core.Path.{fun_ext}
+use Rattle.std.proofs.Common.{◌≡◌, ℕ, suc, ◌+◌, ◌-◌, ◌<◌, Bool, true, false, not, ◌&&◌, ◌||◌, List, [], ◌∷◌, ◌++◌, length, map, filter, take, drop, Option, Some, None, is_none, option_to_list, if◌then◌else◌, refl, sym, ap, ap₂, subst, ◌∙◌, ⊎_elim, arith, append-nil, append_assoc, length-append}
 use Rattle.std.specs.List.{range_with_len}
 use Rattle.std.specs.Option.{option_map}
 use Rattle.std.proofs.lemmas.Bool.{false≢true, cond-true, cond-false, cases_Bool, and_parts}
@@ -10,20 +9,18 @@ use Rattle.lp_definitions.specs.declared.reply.Reply.{Reply}
 use Rattle.lp_definitions.specs.Events.{is_control}
 use Rattle.lp_definitions.specs.Leg.{State, Leg, after}
 use Rattle.lp_definitions.specs.Tasks.{Live}
-use Rattle.lp_definitions.specs.Schedule.{leg_task, waits, first_check}
-use Rattle.lp_definitions.specs.Run.{Run, plus, first_leg, leg_of, and_then, is_complete_now, opened, opens, next_leg, reply, new_target, shown, leg_after, refused_by as why_refused}
+use Rattle.lp_definitions.specs.Run.{Run, plus, first_leg, leg_of, and_then, is_complete_now, opened, opens, next_leg, reply, new_target, leg_after, refused_by as why_refused}
 use Rattle.lp_definitions.specs.Sound.{IsSound}
 use Rattle.lp_machine.specs.Steps.{StandsIn}
 use Rattle.lp_machine_laws.proofs.Runs.{leg_after-plus}
 use Rattle.lp_machine_laws.proofs.States.{state_sound}
 use Rattle.lp_laws.proofs.WholeRun.{run_sound, start_sound}
 use Rattle.std.proofs.lemmas.List.{map-append}
-use Rattle.lp_machine.specs.Machine.{complete_in, waits_in, next, turned, answer, refusal_of, state_of}
+use Rattle.lp_machine.specs.Machine.{waits_in, next, turned, answer, refusal_of, state_of}
 use Rattle.lp_machine.specs.Table.{Engine, IsWide, state_in}
-use Rattle.lp_transition.specs.Weigh.{Weighed, IsWeighed, HasBlamesAfter, refusal_in}
+use Rattle.lp_transition.specs.Weigh.{Weighed, IsWeighed, HasToldBlamesAfter, refusal_in}
 use Rattle.lp_transition.specs.Blames.{AreOfWaiting, blame_by}
 use Rattle.lp_machine.proofs.EngineLemmas.{next-turned}
-use Rattle.lp_definitions.proofs.Quantifiers.{each_live-at, some_live-is, some_live-map}
 use Rattle.lp_machine_laws.proofs.Steps.{complete_is, refusal_is, does}
 use Rattle.lp_tasks.proofs.TableLemmas.{slot_from_live}
 use Rattle.lp_transition.proofs.ScanTakes.{group_fits}
@@ -34,15 +31,14 @@ use Rattle.lp_definitions.specs.declared.line.Line.{Line}
 use Rattle.lp_definitions.specs.Ends.{LegEnd, end_of}
 use Rattle.lp_cert.specs.declared.head.Waiter.{Waiter}
 use Rattle.lp_cert.specs.declared.open_leg.OpenLeg.{OpenLeg}
-use Rattle.lp_cert.specs.declared.maker.Ready.{Ready}
-use Rattle.lp_definitions.specs.Certificates.{lines, waiting_groups, waiting_certs, floor_certs, completion, certs_by}
-use Rattle.lp_cert.specs.Ends.{Made, IsMadeWith, Room, ended_legs, is_opening, under_way}
-use Rattle.lp_cert.specs.Invariant.{open_end, room_of}
-use Rattle.lp_cert.specs.inside.Invariant.{IfReady, IsReady, leg_at, IsStepped}
+use Rattle.lp_definitions.specs.Certificates.{lines, waiting_certs, completion, certs_by}
+use Rattle.lp_cert.specs.Ends.{Made, IsMadeWith, ended_legs, is_opening, under_way}
+use Rattle.lp_cert.specs.Invariant.{open_end}
+use Rattle.lp_cert.specs.inside.Invariant.{leg_at, IsStepped}
 use Rattle.lp_cert.specs.Waiters.{WaitingGroups, kept_cert, waiters_of}
-use Rattle.lp_cert.specs.inside.LegRows.{KeptEnds}
 use Rattle.lp_cert.specs.inside.Waiters.{HasFewGroups, has_off, lines_at}
 use Rattle.lp_laws.proofs.Completions.{past_floor, completion_opened, completion_below, certs_kept, completion_stays, completion_now, incomplete_if}
+use Rattle.lp_cert.proofs.LegCerts.{floor_are, none_waits, waiting_are}
 use Rattle.lp_cert.proofs.Making.{none_is, cert_for, certs_from, certs_tell, floor_from, no_waiters}
 use Rattle.lp_transition.specs.LastScan.{IsLastScanAfter, used_scan}
 use Rattle.lp_cert.specs.Unchanged.{AreHeld, AreUnchangedBy}
@@ -50,37 +46,6 @@ use Rattle.lp_cert.proofs.Held.{held_on, none_held}
 use Rattle.lp_cert.proofs.ScanTold.{TellsOrUnchanged, tells_unchanged}
 use Rattle.lp_cert.proofs.UnchangedSteps.{none_unchanged, unchanged_on}
 use Rattle.lp_cert.proofs.StepLines.{IsFew, step_lines}
-
--- ---- Who waits in a leg, and its certificates
-
-waits_same : (model : Rules) (leg : Leg) (g : ℕ) → waits_in (state_of model leg) g ≡ waits model leg (first_check model leg) (length leg.events) g
-unfolding shown waits
-waits_same model leg g = some_live-map leg.bounds (leg_task leg (first_check model leg) (length leg.events)) (after model leg (length leg.events)) (λ t y. nat_eq y.group g && not (nat_eq y.level leg.target))
-
--- nobody, where all is complete
-none_waits : (s : State) → complete_in s ≡ true → (g : ℕ) → waits_in s g ≡ false
-none_waits s complete g = by (waits_in s g) refl
-  where
-    by : (b : Bool) → waits_in s g ≡ b → waits_in s g ≡ false
-    by false out = out
-    by true there =
-        let who = some_live-is s.bounds s.tasks (λ t x. nat_eq x.group g && not (nat_eq x.level s.target)) there in
-        let on = each_live-at s.bounds s.tasks (λ t x. nat_eq x.level s.target) complete who.task who.life who.positive who.within who.live in
-        absurd (false≢true (ap not (sym on) ∙ (and_parts (nat_eq who.life.group g) (not (nat_eq who.life.level s.target)) who.passed).1))
-
-module _ (model : Rules) (leg : Leg) (tasks : leg.bounds.tasks ≡ 65535) where
-  abbrev n : ℕ
-  n = length leg.events
-
-  groups_are : waiting_groups model leg n ≡ filter (waits_in (state_of model leg)) (range_with_len 0 65536)
-  groups_are =
-      ap₂ (λ test m. filter test (range_with_len 0 (suc m))) (fun_ext (λ g. sym (waits_same model leg g))) tasks
-
-  waiting_are : waiting_certs model leg n ≡ map (cert_for Waiting leg.number (leg.number + n) (lines model leg n)) (filter (waits_in (state_of model leg)) (range_with_len 0 65536))
-  waiting_are = ap (map (cert_for Waiting leg.number (leg.number + n) (lines model leg n))) groups_are
-
-  floor_are : floor_certs model leg n ≡ map (cert_for Floor leg.number (leg.number + n) (lines model leg n)) (take 1 (filter (waits_in (state_of model leg)) (range_with_len 0 65536)))
-  floor_are = ap (λ gs. map (cert_for Floor leg.number (leg.number + n) (lines model leg n)) (take 1 gs)) groups_are
 
 -- ---- The end of a leg that isn't complete
 
@@ -283,7 +248,7 @@ module _ (model : Rules) (lawful : IsLawful model) (e : Engine) (sound : IsSound
     no_lines g = refl
 
     -- nobody is held, as all blames are gone
-    pub opened_held : (after : Engine) → HasBlamesAfter model e event after → IsWide e.table → AreHeld (state_of model (opened model leg event)) (lines model (opened model leg event) 0) after
+    pub opened_held : (after : Engine) → HasToldBlamesAfter model e event after → IsWide e.table → AreHeld (state_of model (opened model leg event)) (lines model (opened model leg event) 0) after
     opened_held after blamed wide =
         none_held (state_of model (opened model leg event)) (lines model (opened model leg event) 0) after no_lines (λ t x live.
         let here : (state_in e).tasks t ≡ Live x = ap (λ (s : State). s.tasks t) turned_is ∙ live in
@@ -393,7 +358,7 @@ module _ (model : Rules) (lawful : IsLawful model) (run : Run) (e : Engine) (sta
   was_held made is = subst (λ (st : State). AreHeld st (lines model (leg_of model run) (length (leg_of model run).events)) e) (sym stands.there) is.held
 
   module _ (step : Weighed) (weighed : IsWeighed model e step) (made new : Made) (is : IsMadeWith model run e made) (wide : IsWide e.table) (of_waiting : AreOfWaiting e)
-      (after : Engine) (stands_after : StandsIn model (plus run step.event) (state_in after)) (blamed : HasBlamesAfter model e step.event after) (known : IsLastScanAfter model e step.event after) where
+      (after : Engine) (stands_after : StandsIn model (plus run step.event) (state_in after)) (blamed : HasToldBlamesAfter model e step.event after) (known : IsLastScanAfter model e step.event after) where
     next_present : leg_of model (plus run step.event) ≡ next_leg model (leg_of model run) step.event
     next_present = leg_after-plus model (first_leg model run) run.events step.event
 
@@ -501,20 +466,3 @@ module _ (model : Rules) (lawful : IsLawful model) (run : Run) (e : Engine) (sta
                 subst (λ (l : Leg). AreHeld (state_of model l) (lines model l (length l.events)) after) (sym next_is)
                 (opened_held model lawful e engine_sound (leg_of model run) present_sound stands.there step weighed (opens_if true turns) after blamed wide);
           }
-
--- ---- What the maker needs of what it keeps
-
--- there is room for the event
-pub ready_for : (noted : ℕ) (current : Option OpenLeg) (w : WaitingGroups) (ends : KeptEnds) (o : Option Ready) (ready : Ready) → IfReady noted current w ends o → o ≡ Some ready → IsReady noted current w ends ready
-ready_for noted current w ends o ready h is = subst (IfReady noted current w ends) is h
-
--- it is what was asked for, and opens a leg or doesn't
-pub room_is : (o : Option Ready) (ready : Ready) (room : Room) → o ≡ Some ready → option_map room_of o ≡ Some room → room_of ready ≡ room
-room_is o ready room is told =
-    let one : Option Room = Some (room_of ready) in
-    let two : Option Room = Some room in
-    let both : one ≡ two = sym (ap (option_map room_of) is) ∙ told in
-    cc
-
-pub opens_is : (o : Option Ready) (ready : Ready) (room : Room) → o ≡ Some ready → option_map room_of o ≡ Some room → ready.opens ≡ room.opens
-opens_is o ready room is told = ap (λ (r : Room). r.opens) (room_is o ready room is told)

@@ -20,7 +20,7 @@ use Rattle.lp_transition.specs.inside.ScanSteps.{groups_of}
 use Rattle.lp_machine.specs.Steps.{StandsIn}
 use Rattle.lp_machine.specs.Table.{Engine, IsWide, state_in}
 use Rattle.lp_transition.specs.Blames.{AreOfWaiting}
-use Rattle.lp_transition.specs.Weigh.{HasBlamesAfter, Weighed, refusal_in}
+use Rattle.lp_transition.specs.Weigh.{HasToldBlamesAfter, Weighed, refusal_in}
 use Rattle.lp_machine.proofs.Alone.{same-after}
 use Rattle.lp_machine.proofs.EngineLemmas.{answer-refused, answer-accepted, is_unchecked, unchecked-control, unchecked-stays, switched-still}
 use Rattle.lp_transition.proofs.SwitchedGroups.{switched-none}
@@ -148,7 +148,7 @@ module _ (model : Rules) (lawful : IsLawful model) (run : Run) (e : Engine) (sta
           ap (λ (o : Option CheckKind). if accepted then (if list_any (nat_eq group) (groups_of step.reply.what) then None else noted_by model e o event [] waiters group) else lines_at waiters group) (sym unused)
 
   -- what is made of the run with the event more
-  pub passed : (made new : Made) → IsMadeWith model run e made → IsWide e.table → AreOfWaiting e → (after : Engine) → StandsIn model (plus run event) (state_in after) → HasBlamesAfter model e event after → IsLastScanAfter model e event after → new.ended ≡ made.ended
+  pub passed : (made new : Made) → IsMadeWith model run e made → IsWide e.table → AreOfWaiting e → (after : Engine) → StandsIn model (plus run event) (state_in after) → HasToldBlamesAfter model e event after → IsLastScanAfter model e event after → new.ended ≡ made.ended
       → (noted number : ℕ) (waiters : WaitingGroups) → number ≡ e.number + 1 → (current : Option OpenLeg) → made.current ≡ option_map (open_end noted waiters) current → new.current ≡ option_map (open_end number waiters) current
       → IsMadeWith model (plus run event) after new
   passed made new is wide of_waiting after stands_after blamed known ended noted number waiters numbered current =

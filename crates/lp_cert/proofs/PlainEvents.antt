@@ -13,7 +13,7 @@ use Rattle.lp_machine.specs.Table.{Engine, IsWide, state_in}
 use Rattle.lp_machine_laws.proofs.Steps.{does}
 use Rattle.lp_transition.specs.LastScan.{IsLastScanAfter}
 use Rattle.lp_transition.specs.Blames.{AreBlamesAfter, AreOfWaiting}
-use Rattle.lp_transition.specs.Weigh.{IsWeighed, HasBlamesAfter, refusal_in}
+use Rattle.lp_transition.specs.Weigh.{IsWeighed, HasToldBlamesAfter, refusal_in}
 use Rattle.lp_transition.proofs.Told.{plain_tells}
 use Rattle.lp_transition.proofs.Weighing.{verdicts-none}
 use Rattle.lp_cert.specs.declared.open_leg.OpenLeg.{OpenLeg}
@@ -24,9 +24,9 @@ use Rattle.lp_cert.specs.Waiters.{WaitingGroups}
 use Rattle.lp_cert.proofs.Noted.{none_made, present_sound, still_made}
 
 -- the engine's blames after an event that is no scan
-pub plain_blames : (model : Rules) (e : Engine) (event : Event) (new : Engine) → is_scan event ≡ false → AreBlamesAfter model e event [] new → HasBlamesAfter model e event new
+pub plain_blames : (model : Rules) (e : Engine) (event : Event) (new : Engine) → is_scan event ≡ false → AreBlamesAfter model e event [] new → HasToldBlamesAfter model e event new
 plain_blames model e event new plain blames =
-    record { verdicts = []; enough = verdicts-none model (state_in e) event plain; told = plain_tells model e event [] plain; blames = blames }
+    record { by = record { verdicts = []; enough = verdicts-none model (state_in e) event plain; blames = blames }; told = plain_tells model e event [] plain }
 
 -- an event that is no control event opens no leg
 pub opens_none : (model : Rules) (e : Engine) (event : Event) → is_control event ≡ false → is_opening (plain_step model e event) ≡ false
@@ -50,7 +50,7 @@ module _ (model : Rules) (lawful : IsLawful model) (run : Run) (e : Engine) (sta
 
   module _ (unscanned : is_scan event ≡ false) (stays : is_opening (plain_step model e event) ≡ false) (room : e.number < 1000000) (wide : IsWide e.table) (of_waiting : AreOfWaiting e) where
     -- what is made of the run with the event more
-    pub plain_made : (made new : Made) → IsMadeWith model run e made → (after : Engine) → StandsIn model (plus run event) (state_in after) → HasBlamesAfter model e event after → IsLastScanAfter model e event after → new.ended ≡ made.ended
+    pub plain_made : (made new : Made) → IsMadeWith model run e made → (after : Engine) → StandsIn model (plus run event) (state_in after) → HasToldBlamesAfter model e event after → IsLastScanAfter model e event after → new.ended ≡ made.ended
         → (noted number : ℕ) → number ≡ e.number + 1 → (before later : WaitingGroups) (current next : Option OpenLeg) → HasGoneOn model e event number current next before later → made.current ≡ option_map (open_end noted before) current → new.current ≡ option_map (open_end number later) next
         → IsMadeWith model (plus run event) after new
     plain_made made new is after stands_after blamed known ended noted number numbered before later None None gone was now =

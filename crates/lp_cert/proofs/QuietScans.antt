@@ -10,7 +10,7 @@ use Rattle.lp_transition.specs.Blames.{AreOfWaiting}
 use Rattle.lp_transition.specs.Scan.{is_scan_kind, scan_event}
 use Rattle.lp_machine.specs.Steps.{StandsIn}
 use Rattle.lp_machine.specs.Table.{Engine, IsWide, state_in}
-use Rattle.lp_transition.specs.Weigh.{HasBlamesAfter, IsWeighed}
+use Rattle.lp_transition.specs.Weigh.{HasToldBlamesAfter, IsWeighed}
 use Rattle.lp_transition.proofs.QuietScans.{quiet_step, quiet_weighed}
 use Rattle.lp_cert.specs.declared.open_leg.OpenLeg.{OpenLeg}
 use Rattle.lp_cert.specs.Ends.{Made, IsMadeWith, is_opening}
@@ -51,7 +51,7 @@ none_some a e = absurd (cc)
 -- ---- One event more
 
 module _ (model : Rules) (lawful : IsLawful model) (run : Run) (e : Engine) (stands : StandsIn model run (state_in e)) (on : CheckKind) (made : Made) (is : IsMadeWith model run e made) (wide : IsWide e.table) (of_waiting : AreOfWaiting e)
-    (after : Engine) (stands_after : StandsIn model (plus run (scan_event on)) (state_in after)) (blamed : HasBlamesAfter model e (scan_event on) after) (known : IsLastScanAfter model e (scan_event on) after) (quiet : IsQuietScan model e on)
+    (after : Engine) (stands_after : StandsIn model (plus run (scan_event on)) (state_in after)) (blamed : HasToldBlamesAfter model e (scan_event on) after) (known : IsLastScanAfter model e (scan_event on) after) (quiet : IsQuietScan model e on)
     (scan : is_scan_kind on ≡ true) (room : e.number < 1000000) (new : Made) (ended : new.ended ≡ made.ended)
     (noted number : ℕ) (leg : OpenLeg) (before later : WaitingGroups) (old : made.current ≡ Some (open_end noted before leg)) (numbered : number ≡ e.number + 1) (unended : leg.completed ≡ None) (stood : AreStanding before)
     (lines_are : (s : State) (group : ℕ) → lines_at later group ≡ scanned_lines s number [] before group) where

@@ -10,7 +10,7 @@ use Rattle.lp_definitions.specs.Run.{Run, plus}
 use Rattle.lp_machine.specs.Steps.{StandsIn}
 use Rattle.lp_machine.specs.Table.{Engine, IsWide, state_in}
 use Rattle.lp_transition.specs.Blames.{AreOfWaiting}
-use Rattle.lp_transition.specs.Weigh.{HasBlamesAfter}
+use Rattle.lp_transition.specs.Weigh.{HasToldBlamesAfter}
 use Rattle.lp_cert.specs.declared.open_leg.OpenLeg.{OpenLeg}
 use Rattle.lp_cert.specs.Ends.{Made, IsMadeWith, is_opening}
 use Rattle.lp_cert.specs.Invariant.{open_end}
@@ -37,7 +37,7 @@ module _ (model : Rules) (lawful : IsLawful model) (run : Run) (e : Engine) (sta
   }
 
   -- what is made of the run with the event more
-  pub rested : (made new : Made) → IsMadeWith model run e made → (after : Engine) → StandsIn model (plus run event) (state_in after) → HasBlamesAfter model e event after → IsLastScanAfter model e event after → new.ended ≡ made.ended
+  pub rested : (made new : Made) → IsMadeWith model run e made → (after : Engine) → StandsIn model (plus run event) (state_in after) → HasToldBlamesAfter model e event after → IsLastScanAfter model e event after → new.ended ≡ made.ended
       → (noted number : ℕ) (waiters : WaitingGroups) → number ≡ e.number + 1 → (current : Option OpenLeg) → is_settled current ≡ true → made.current ≡ option_map (open_end noted waiters) current → new.current ≡ option_map (open_end number waiters) current
       → IsMadeWith model (plus run event) after new
   rested made new is after stands_after blamed known ended noted number waiters numbered current settled =

@@ -6,7 +6,7 @@ use Rattle.lp_model.specs.Rules.{Rules}
 use Rattle.lp_definitions.specs.declared.event.Event.{Event}
 use Rattle.lp_definitions.specs.declared.reply.What.{What}
 use Rattle.lp_definitions.specs.Events.{is_control}
-use Rattle.lp_transition.specs.Weigh.{Weighed, HasBlamesAfter, refusal_in}
+use Rattle.lp_transition.specs.Weigh.{Weighed, HasToldBlamesAfter, refusal_in}
 use Rattle.lp_definitions.specs.Leg.{Leg}
 use Rattle.lp_definitions.specs.Run.{Run, plus, first_leg, leg_of, opens, next_leg}
 use Rattle.lp_definitions.specs.Schedule.{waits, first_check}
@@ -33,13 +33,12 @@ is_opening step = is_opened step.event step.reply.what
 
 -- room for an event that may open a leg, answered by so many verdicts
 pub record Room : Type 0 where
-  pub event : Event
   pub opens : Bool
   pub verdicts : ℕ
 
 -- the room that an event needs
 abbrev pub room_for : Weighed → Room
-room_for step = record { event = step.event; opens = is_opening step; verdicts = length step.verdicts }
+room_for step = record { opens = is_opening step; verdicts = length step.verdicts }
 
 -- the ends of the legs that ended, the end of the leg under way as it stands, and the event for which there is room
 pub record Made : Type 0 where
@@ -131,7 +130,7 @@ module _ (model : Rules) where
   abbrev pub IsMadeFurther : (old : Engine) → Event → (before after : Made) → Type 0
   IsMadeFurther old event before after =
       (run : Run) (new : Engine) → StandsIn model run (state_in old) → IsMadeWith run old before →
-      StandsIn model (plus run event) (state_in new) → HasBlamesAfter model old event new → IsLastScanAfter model old event new →
+      StandsIn model (plus run event) (state_in new) → HasToldBlamesAfter model old event new → IsLastScanAfter model old event new →
       IsMadeWith (plus run event) new after
 
   -- ---- The leg under way

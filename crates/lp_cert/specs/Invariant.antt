@@ -25,4 +25,4 @@ open_end noted waiters leg =
 
 -- the room that is made
 abbrev pub room_of : Ready → Room
-room_of ready = record { event = ready.event; opens = ready.opens; verdicts = ready.verdicts }
+room_of ready = record { opens = ready.opens; verdicts = ready.verdicts }

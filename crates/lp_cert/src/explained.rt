@@ -1,12 +1,11 @@
 //! An engine that explains itself: the maker of certificates notes each event as the engine takes it.
-ghost use Rattle.std.specs.Prelude.{◌≡◌, ◌++◌, ◌<◌, [], None, true, false, is_some, option_to_list, IfOk, OnErr, OnOk};
+ghost use Rattle.std.specs.Prelude.{◌≡◌, ◌++◌, ◌<◌, [], None, is_some, option_to_list, IfOk, OnErr, OnOk};
 ghost use Rattle.std.specs.Option.{option_map};
 ghost use Rattle.lp_definitions.specs.Run.{Run, plus};
-ghost use Rattle.lp_machine.specs.Steps.{IsStep, StandsIn};
+ghost use Rattle.lp_machine.specs.Steps.{IsStep};
 ghost use Rattle.lp_machine.specs.Table.{state_in};
 ghost use Rattle.lp_transition.specs.Weigh.{HasBlamesAfter};
-ghost use Rattle.lp_transition.specs.Scan.{is_scan_kind, scan_event};
-ghost use Rattle.lp_cert.specs.Ends.{IsMadeWith, cert_upto, ends_left, floor_in, is_complete_in, waiting_in};
+ghost use Rattle.lp_cert.specs.Ends.{cert_upto, ends_left, floor_in, is_complete_in, waiting_in};
 ghost use Rattle.lp_cert.specs.Explained.{IsExplained};
 
 use crate::leg_list::{LegEnds, LegList};
@@ -14,7 +13,7 @@ use crate::maker::Maker;
 use lp_definitions::Cert;
 use lp_model::{CheckKind, Consistency};
 use lp_stack::GroupId;
-use lp_transition::{Core, Event, Halt, Reply};
+use lp_transition::{Core, Event, Reply};
 use std::alloc::{AllocError, Global};
 use std::marker::Model;
 
@@ -71,11 +70,11 @@ impl<M: Consistency> ExplainedCore<M> {
         }
         self.maker.note_passed(core);
         if event.is_control() {
-            return take_weighed(alloc, core, &mut self.maker, event);
+            return self.maker.take_weighed(alloc, core, event);
         }
         match event {
-            Event::Walk => take_scan(alloc, core, &mut self.maker, CheckKind::Walk, event),
-            Event::Stop => take_scan(alloc, core, &mut self.maker, CheckKind::Stop, event),
+            Event::Walk => self.maker.take_scan(alloc, core, CheckKind::Walk, event),
+            Event::Stop => self.maker.take_scan(alloc, core, CheckKind::Stop, event),
             _ => self.maker.take_plain(alloc, core, event),
         }
     }
@@ -142,64 +141,4 @@ fn up_to(cert: Option<Cert>, upto: u64) -> Option<Cert>
     let mut cert = cert?;
     cert.upto = upto;
     Some(cert)
-}
-
-/// Takes a walk or a stop: without a look at anybody where no group has to be asked, since then it switches nobody and each group's
-/// newest reason continues.
-#[inline(always)]
-fn take_scan<M: Consistency>(
-    alloc: Global,
-    core: &mut Core<M>,
-    maker: &mut Maker,
-    kind: CheckKind,
-    event: Event,
-) -> Result<Reply, AllocError>
-    requires scan { is_scan_kind kind ≡ true }
-    requires event { event ≡ scan_event kind }
-    requires room { core.old.number < 1000000 }
-    ensures step { IfOk result (λ reply. IsStep M.rules (state_in core.old) event reply (state_in core.new)) }
-    ensures made { OnOk result ((run : Run) → StandsIn M.rules run (state_in core.old) → IsMadeWith M.rules run core.old maker.old → IsMadeWith M.rules (plus run event) core.new maker.new) }
-    ensures blames { OnOk result (HasBlamesAfter M.rules core.old event core.new) }
-    ensures unchanged { OnErr result (core.new ≡ core.old) }
-    ensures ended { OnErr result (maker.new.ended ≡ maker.old.ended) }
-    ensures current { OnErr result (maker.new.current ≡ maker.old.current) }
-{
-    if maker.note_quiet_scan(core, kind) {
-        return Ok(core.step_quiet_scan(kind));
-    }
-    take_weighed(alloc, core, maker, event)
-}
-
-/// Takes an event that is weighed first: one that may open a leg, and a scan that has to ask somebody, by those alone to whom something
-/// happened since the last one. Out of line, so that others pay nothing for what it needs.
-#[inline(never)]
-fn take_weighed<M: Consistency>(
-    alloc: Global,
-    core: &mut Core<M>,
-    maker: &mut Maker,
-    event: Event,
-) -> Result<Reply, AllocError>
-    requires room { core.old.number < 1000000 }
-    ensures step { IfOk result (λ reply. IsStep M.rules (state_in core.old) event reply (state_in core.new)) }
-    ensures made { OnOk result ((run : Run) → StandsIn M.rules run (state_in core.old) → IsMadeWith M.rules run core.old maker.old → IsMadeWith M.rules (plus run event) core.new maker.new) }
-    ensures blames { OnOk result (HasBlamesAfter M.rules core.old event core.new) }
-    ensures unchanged { OnErr result (core.new ≡ core.old) }
-    ensures ended { OnErr result (maker.new.ended ≡ maker.old.ended) }
-    ensures current { OnErr result (maker.new.current ≡ maker.old.current) }
-{
-    let step = match core.weigh_changed(alloc, event) {
-        Ok(step) => step,
-        Err(Halt::NoMemory) => return Err(AllocError),
-        Err(Halt::JournalFull) => unreachable!(),
-    };
-    match maker.ready(alloc, core, &step) {
-        Ok(()) => {
-            maker.note(core, &step);
-            Ok(core.take(step))
-        }
-        Err(error) => {
-            drop(step);
-            Err(error)
-        }
-    }
 }

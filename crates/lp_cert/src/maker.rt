@@ -13,6 +13,7 @@ ghost use Rattle.std.specs.Option.{option_map};
 
 mod plain;
 mod quiet_scan;
+mod weighed;
 
 use self::plain::affect_leg;
 use crate::leg_end::LegEnd;
@@ -28,14 +29,12 @@ use lp_transition::{Core, Event, Step};
 use std::alloc::{AllocError, Global};
 use std::marker::Model;
 
-/// An event for which there is room: `note` may not fail once the engine is to take it.
+/// For what event there is room: `note` may not fail once the engine is to take it.
 #[derive(Clone, Copy)]
 pub(crate) struct Ready {
-    /// The event.
-    pub(crate) event: Event,
     /// Whether it opens a leg.
     pub(crate) opens: bool,
-    /// How many verdicts it was answered by.
+    /// How many verdicts it was answered by. It is for the proof alone, which else wouldn't know that they have room.
     pub(crate) verdicts: usize,
 }
 
@@ -107,7 +106,6 @@ impl Maker {
     {
         self.ready = None;
         let ready = Ready {
-            event: step.event(),
             opens: opens_leg(step.event(), &step.reply().what),
             verdicts: step.verdicts().len(),
         };

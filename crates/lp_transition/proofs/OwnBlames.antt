@@ -1,9 +1,8 @@
 -- The frame for which an own check in the kernel refuses its task: it is found of the task's group alone, and is right.
-use Rattle.std.proofs.Common.{◌≡◌, ℕ, ◌<◌, ◌≤◌, Bool, true, false, not, ◌&&◌, List, [], length, Option, Some, None, is_none, if◌then◌else◌, nat_eq, refl, sym, ap, subst, ◌∙◌, ⊎_elim}
-use Rattle.std.proofs.lemmas.Bool.{false≢true, cond-true, cond-false, cases_Bool, and_parts, and_from, eqb-true, not-true}
+use Rattle.std.proofs.Common.{◌≡◌, ℕ, ◌<◌, ◌≤◌, Bool, true, false, not, ◌&&◌, [], length, Option, Some, None, if◌then◌else◌, nat_eq, refl, sym, ap, subst, ◌∙◌}
+use Rattle.std.proofs.lemmas.Bool.{cond-true, cond-false, and_parts, eqb-true, not-true}
 use Rattle.std.specs.Option.{option_map}
 use Rattle.lp_stack.specs.declared.number.TaskId.{TaskId}
-use Rattle.lp_stack.specs.declared.frame.Frame.{Frame}
 use Rattle.lp_numbers.specs.Numbers.{Numbers, has}
 use Rattle.lp_model.specs.Rules.{Rules, IsLawful}
 use Rattle.lp_model.specs.declared.check.Blame.{Blame}
@@ -12,7 +11,7 @@ use Rattle.lp_model.specs.declared.check.CheckKind.{CheckKind}
 use Rattle.lp_model.specs.declared.check.CheckKind.TheVariants as kind
 use Rattle.lp_machine.specs.declared.standing_blame.StandingBlame.{StandingBlame}
 use Rattle.lp_definitions.specs.declared.event.Event.TheVariants.{Resched}
-use Rattle.lp_definitions.specs.Tasks.{Fate, Unused, Live, Dead, on_live, map_live, change}
+use Rattle.lp_definitions.specs.Tasks.{Fate, Unused, Live, Dead, on_live, map_live}
 use Rattle.lp_definitions.specs.Leg.{LegTask, State, is_alone}
 use Rattle.lp_definitions.specs.Sound.{IsSound}
 use Rattle.lp_definitions.proofs.Quantifiers.{some_live-is}

@@ -1,10 +1,9 @@
 -- The engine after an own check, by what it was answered.
-use Rattle.std.proofs.Common.{◌≡◌, ℕ, ◌<◌, ◌≤◌, Bool, true, false, List, [], length, set, Option, Some, None, is_none, if◌then◌else◌, refl, sym, ap, subst, ◌∙◌}
+use Rattle.std.proofs.Common.{◌≡◌, ℕ, ◌<◌, ◌≤◌, Bool, true, false, List, [], length, set, Option, None, is_none, if◌then◌else◌, sym, ap, subst, ◌∙◌}
 use Rattle.lp_stack.specs.declared.number.TaskId.{TaskId}
 use Rattle.lp_numbers.specs.Numbers.{Numbers}
 use Rattle.lp_model.specs.Rules.{Rules, IsLawful}
 use Rattle.lp_model.specs.declared.check.CheckKind.{CheckKind}
-use Rattle.lp_definitions.specs.Leg.{LegTask}
 use Rattle.lp_machine.specs.declared.standing_blame.StandingBlame.{StandingBlame}
 use Rattle.lp_machine.specs.Machine.{affected, switches_at, refusal_of, answer}
 use Rattle.lp_machine.specs.Table.{Table, Engine, LastScan, slot, state_in}

@@ -1,6 +1,6 @@
 -- Scans that may leave out every group that waits.
-use Rattle.std.proofs.Common.{◌≡◌, ◌↔◌, ℕ, ◌<◌, Bool, true, false, not, ◌&&◌, List, [], Option, Some, None, refl, sym, ap, ap₂, subst, inl, inr, ⊎_elim, ◌∙◌, arith}
-use Rattle.std.proofs.lemmas.Bool.{false≢true, cases_Bool}
+use Rattle.std.proofs.Common.{◌≡◌, ◌↔◌, ℕ, ◌<◌, Bool, true, false, not, ◌&&◌, List, [], Option, Some, None, refl, sym, ap, ap₂, subst, inl, inr, ◌∙◌, arith}
+use Rattle.std.proofs.lemmas.Bool.{false≢true}
 use mathlib.Core.Path.{fun_ext}
 use Rattle.lp_numbers.specs.Numbers.{Numbers, has, IsEmpty}
 use Rattle.lp_model.specs.Rules.{Rules, IsLawful}
@@ -19,7 +19,7 @@ use Rattle.lp_transition.specs.Scan.{is_scan_kind, scan_event, verdicts_of, is_a
 use Rattle.lp_tasks.specs.Passing.{passing}
 use Rattle.lp_transition.specs.LastScan.{IsLastScanAfter, IsQuietScan}
 use Rattle.lp_machine.specs.Table.{Engine, LastScan, state_in}
-use Rattle.lp_transition.specs.Weigh.{Weighed, IsWeighed, HasBlamesAfter}
+use Rattle.lp_transition.specs.Weigh.{Weighed, IsWeighed, HasToldBlamesAfter}
 use Rattle.lp_transition.specs.inside.Blames.{blame_at}
 use Rattle.lp_transition.specs.inside.Invariant.{KeptScan, IsNoted, IsWhole, told_scan}
 use Rattle.lp_transition.specs.inside.ScanSteps.{is_judged, is_unrefused, switches_by, all_admit, tasks_of}
@@ -31,7 +31,7 @@ use Rattle.lp_transition.proofs.Effects.{HasTaken, with_table, with_scan}
 use Rattle.lp_machine_laws.proofs.Runs.{is_step}
 use Rattle.lp_transition.proofs.ScanAnswers.{answer-scan, still, verdicts-scan}
 use Rattle.lp_transition.proofs.ScanSwitches.{none_switched}
-use Rattle.lp_transition.proofs.ScanTakes.{takes_scan, group_fits}
+use Rattle.lp_transition.proofs.ScanTakes.{takes_scan}
 use Rattle.lp_tasks.proofs.TableLemmas.{slot_from_live}
 use Rattle.lp_transition.proofs.Unchanged.{core_scanned}
 use Rattle.lp_transition.proofs.LastScans.{last_scanned}
@@ -112,8 +112,8 @@ module _ (model : Rules) (lawful : IsLawful model) (e old : Engine) (waiting : N
   pub quiet_steps : IsStep model (state_in old) (scan_event on) (record { what = Done; completed = false }) (state_in (record (with_table e.table e) { last_scan = told_scan left }))
   quiet_steps = is_step model lawful (state_in old) (state_in (record (with_table e.table e) { last_scan = told_scan left })) (scan_event on) (record { what = Done; completed = false }) weighed.reply taken.state
 
-  pub quiet_blames : HasBlamesAfter model old (scan_event on) (record (with_table e.table e) { last_scan = told_scan left })
-  quiet_blames = record { verdicts = []; enough = weighed.verdicts; told = weighed.told; blames = leaves_blames.after }
+  pub quiet_blames : HasToldBlamesAfter model old (scan_event on) (record (with_table e.table e) { last_scan = told_scan left })
+  quiet_blames = record { by = record { verdicts = []; enough = weighed.verdicts; blames = leaves_blames.after }; told = weighed.told }
 
   module _ (told : e.last_scan ≡ told_scan last) (kind : left.kind ≡ last.kind) (may_refuse : left.may_refuse ≡ last.may_refuse) (fresh : IsEmpty left.changed) where
     noted : IsNoted on waiting [] last left

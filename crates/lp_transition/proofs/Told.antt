@@ -1,6 +1,6 @@
 -- Verdicts that tell of each group that waits, but for those of which it is known what a scan finds.
 use Rattle.std.proofs.Common.{◌≡◌, ◌⊎◌, ℕ, Bool, true, false, ◌&&◌, List, [], Some, None, IsTrue, nat_eq, refl, sym, ap, subst, inl, inr, ◌∙◌, ⊎_elim}
-use Rattle.std.proofs.lemmas.Bool.{false≢true, cond-true, cond-false, cases_Bool, and_from, eq-eqb}
+use Rattle.std.proofs.lemmas.Bool.{cond-true, cond-false, cases_Bool, and_from, eq-eqb}
 use Rattle.std.specs.List.{list_any}
 use Rattle.lp_numbers.specs.Numbers.{has, IsEmpty}
 use Rattle.lp_model.specs.Rules.{Rules}

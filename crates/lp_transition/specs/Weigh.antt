@@ -55,8 +55,13 @@ pub record IsWeighed (model : Rules) (engine : Engine) (step : Weighed) : Type 0
 pub record HasBlamesAfter (model : Rules) (old : Engine) (event : Event) (new : Engine) : Type 0 where
   pub verdicts : List Verdict
   pub enough : AreVerdictsFor model (state_in old) event verdicts
-  pub told : Tells model old event verdicts
   pub blames : AreBlamesAfter model old event verdicts new
+
+-- the same, by verdicts that tell of each group that waits but for those that are known
+pub record HasToldBlamesAfter (model : Rules) (old : Engine) (event : Event) (new : Engine) : Type 0 where
+  pub by : HasBlamesAfter model old event new
+  pub open by use {verdicts, enough, blames}
+  pub told : Tells model old event verdicts
 
 -- it is answered with no look at anybody: a return, a sleep, a wake-up, an entry into the kernel or a fork
 abbrev pub is_answered_done : Event → Bool

@@ -19,7 +19,6 @@ mod boot;
 mod control;
 mod dispatch;
 mod first_refusals;
-mod moves;
 mod open_scan;
 mod opening;
 mod own_check;

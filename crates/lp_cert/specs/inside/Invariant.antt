@@ -4,7 +4,9 @@ use Rattle.std.specs.Option.{option_map}
 use Rattle.lp_stack.specs.declared.number.GroupId.{GroupId}
 use Rattle.lp_model.specs.Rules.{Rules}
 use Rattle.lp_definitions.specs.declared.event.Event.{Event}
+use Rattle.lp_definitions.specs.Run.{Run, plus}
 use Rattle.lp_machine.specs.Machine.{answer}
+use Rattle.lp_machine.specs.Steps.{StandsIn}
 use Rattle.lp_machine.specs.Table.{Engine, state_in}
 use Rattle.lp_transition.specs.Weigh.{Weighed, refusal_in}
 use Rattle.lp_definitions.specs.declared.cert.Claim.{Claim}
@@ -17,6 +19,7 @@ use Rattle.lp_cert.specs.inside.StepLines.{stepped_lines}
 use Rattle.lp_transition.specs.LastScan.{used_scan}
 use Rattle.lp_cert.specs.Waiters.{WaitingGroups, waiters_of}
 use Rattle.lp_cert.specs.inside.Waiters.{AreStanding, HasFewGroups, lines_at}
+use Rattle.lp_cert.specs.Ends.{Made, IsMadeWith}
 use Rattle.lp_cert.specs.Invariant.{open_end}
 
 -- the certificate of a group with these lines, the newest in front
@@ -67,6 +70,12 @@ pub record IsStepped (model : Rules) (e : Engine) (step : Weighed) (number : ℕ
       (new ≡ old) × ((group : ℕ) → lines_at after group ≡ stepped_lines model e step before group)
       × (refusal_in step.reply.what ≡ None → HasFewGroups e step.event)
       × (IsSome (used_scan model step.event) → refusal_in step.reply.what ≡ None → AreStanding before)
+
+-- what is made follows an event that the engine took: if it was that of a run that stood in the engine before, it is that of the run
+-- with the event in the engine after
+abbrev pub IsMadeAfter : Rules → (old : Engine) → Event → (new : Engine) → (before after : Made) → Type 0
+IsMadeAfter model old event new before after =
+    (run : Run) → StandsIn model run (state_in old) → IsMadeWith model run old before → IsMadeWith model (plus run event) new after
 
 -- an event that is no scan as it is weighed
 abbrev pub plain_step : Rules → Engine → Event → Weighed

@@ -2,16 +2,15 @@
 //! together once they are over.
 ghost use Rattle.std.specs.Prelude.{◌≡◌, ◌+◌, ◌<◌, ℕ, Bool, true, false, None, is_some, IfOk, OnErr, OnOk};
 ghost use Rattle.lp_definitions.specs.Events.{is_control, is_scan};
-ghost use Rattle.lp_definitions.specs.Run.{Run, plus};
 ghost use Rattle.lp_definitions.specs.TaskEvents.{is_quiet};
 ghost use Rattle.lp_definitions.specs.declared.event.Event.{Event};
 ghost use Rattle.lp_model.specs.Rules.{Rules};
-ghost use Rattle.lp_machine.specs.Steps.{IsStep, StandsIn};
+ghost use Rattle.lp_machine.specs.Steps.{IsStep};
 ghost use Rattle.lp_machine.specs.Table.{Engine, state_in};
 ghost use Rattle.lp_transition.specs.LastScan.{used_scan};
 ghost use Rattle.lp_transition.specs.Weigh.{HasBlamesAfter, Weighed, refusal_in};
-ghost use Rattle.lp_cert.specs.Ends.{IsMadeFurther, IsMadeWith, made_upto, passed_upto};
-ghost use Rattle.lp_cert.specs.inside.Invariant.{IsStepped, is_settled};
+ghost use Rattle.lp_cert.specs.Ends.{IsMadeFurther, made_upto, passed_upto};
+ghost use Rattle.lp_cert.specs.inside.Invariant.{IsMadeAfter, IsStepped, is_settled};
 ghost use Rattle.lp_cert.specs.inside.OwnEffects.{HasEffectRoom, IsTold, after_effect};
 ghost use Rattle.lp_cert.specs.inside.Waiters.{HasFewGroups, lines_at, own_lines};
 
@@ -59,7 +58,7 @@ impl Maker {
         requires plain { is_scan event ≡ false }
         requires uncontrolled { is_control event ≡ false }
         ensures step { IfOk result (λ reply. IsStep M.rules (state_in core.old) event reply (state_in core.new)) }
-        ensures made { OnOk result ((run : Run) → StandsIn M.rules run (state_in core.old) → IsMadeWith M.rules run core.old self.old → IsMadeWith M.rules (plus run event) core.new self.new) }
+        ensures made { OnOk result (IsMadeAfter M.rules core.old event core.new self.old self.new) }
         ensures blames { OnOk result (HasBlamesAfter M.rules core.old event core.new) }
         ensures unchanged { OnErr result (core.new ≡ core.old) }
         ensures ended { OnErr result (self.new.ended ≡ self.old.ended) }

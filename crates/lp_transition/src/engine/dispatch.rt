@@ -11,10 +11,10 @@ ghost use Rattle.lp_transition.specs.Weigh.{HasBlamesAfter, IsWeighed, is_switch
 ghost use Rattle.lp_machine.specs.Machine.{refusal_of, answer, next};
 
 use super::Core;
-use super::moves::Move;
 use super::step::{Halt, Step};
 use crate::{Event, MOST_EVENTS, Refusal, Reply, What};
 use lp_model::{CheckKind, Consistency, Verdict};
+use lp_stack::Mode;
 use std::alloc::{AllocError, Global};
 
 impl<M: Consistency> Core<M> {
@@ -169,9 +169,9 @@ impl<M: Consistency> Core<M> {
         match event {
             Event::Call(task, func) => self.take_call(task, func),
             Event::Ret(task) => self.take_ret(task),
-            Event::Sleep(task) => self.take_move(Move::Sleep, task),
-            Event::Wake(task) => self.take_move(Move::Wake, task),
-            Event::Enter(task) => self.take_move(Move::Enter, task),
+            Event::Sleep(task) => self.take_move(event, task, Mode::Asleep),
+            Event::Wake(task) => self.take_move(event, task, Mode::Kernel),
+            Event::Enter(task) => self.take_move(event, task, Mode::Kernel),
             Event::Exit(task) => self.take_own_check(CheckKind::KernelExit, task, switching),
             Event::Idle(task) => self.take_own_check(CheckKind::IdlePoint, task, switching),
             Event::Resched(task) => self.take_own_check(CheckKind::Resched, task, switching),

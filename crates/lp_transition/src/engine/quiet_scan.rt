@@ -4,7 +4,7 @@ ghost use Rattle.lp_transition.specs.LastScan.{IsLastScanAfter, IsQuietScan};
 ghost use Rattle.lp_transition.specs.Scan.{is_scan_kind, scan_event};
 ghost use Rattle.lp_machine.specs.Steps.{IsStep};
 ghost use Rattle.lp_machine.specs.Table.{state_in};
-ghost use Rattle.lp_transition.specs.Weigh.{HasBlamesAfter};
+ghost use Rattle.lp_transition.specs.Weigh.{HasToldBlamesAfter};
 
 use super::Core;
 use super::dispatch::done;
@@ -31,7 +31,7 @@ impl<M: Consistency> Core<M> {
         requires room { self.old.number < 1000000 }
         requires quiet { IsQuietScan M.rules self.old kind }
         ensures step { IsStep M.rules (state_in self.old) (scan_event kind) result (state_in self.new) }
-        ensures blames { HasBlamesAfter M.rules self.old (scan_event kind) self.new }
+        ensures blames { HasToldBlamesAfter M.rules self.old (scan_event kind) self.new }
         ensures last_scan { IsLastScanAfter M.rules self.old (scan_event kind) self.new }
     {
         self.events += 1;

@@ -8,11 +8,10 @@ ghost use Rattle.lp_transition.specs.Blames.{AreBlamesAfter};
 ghost use Rattle.lp_transition.specs.LastScan.{IsLastScanAfter};
 ghost use Rattle.lp_machine.specs.Table.{state_in};
 ghost use Rattle.lp_machine.specs.Machine.{refusal_of, next};
-ghost use Rattle.lp_transition.specs.inside.Moves.{move_event};
+ghost use Rattle.lp_transition.specs.inside.Moves.{moved_by};
 
 use super::Core;
 use super::control::put_number;
-use super::moves::Move;
 use super::weigh::{group_of, level_of};
 use crate::Event;
 use lp_model::{Consistency, ForkKind};
@@ -50,16 +49,17 @@ impl<M: Consistency> Core<M> {
         self.unchanged.touch(&self.tasks, &self.blames, task);
     }
 
-    /// An accepted move of a task.
+    /// An accepted event that moves a task: it is in this mode afterwards.
     #[inline(always)]
-    pub(super) fn take_move(&mut self, kind: Move, task: TaskId)
+    pub(super) fn take_move(&mut self, event: Event, task: TaskId, mode: Mode)
         requires room { self.old.number < 1000000 }
-        requires accepted { refusal_of M.rules (state_in self.old) (move_event kind task) ≡ None }
-        ensures state { state_in self.new ≡ next M.rules (state_in self.old) (move_event kind task) }
-        ensures blames { AreBlamesAfter M.rules self.old (move_event kind task) [] self.new }
-        ensures last_scan { IsLastScanAfter M.rules self.old (move_event kind task) self.new }
+        requires accepted { refusal_of M.rules (state_in self.old) event ≡ None }
+        requires moves { moved_by event ≡ Some (task, mode) }
+        ensures state { state_in self.new ≡ next M.rules (state_in self.old) event }
+        ensures blames { AreBlamesAfter M.rules self.old event [] self.new }
+        ensures last_scan { IsLastScanAfter M.rules self.old event self.new }
     {
-        self.tasks.set_mode(task, kind.mode());
+        self.tasks.set_mode(task, mode);
         self.events += 1;
         self.unchanged.touch(&self.tasks, &self.blames, task);
     }

@@ -18,37 +18,37 @@ returns-then-is_quiet-clause-explained g c =
 pub returns-then-is_control-clause-explained : goal.returns-then-is_control-clause-explained
 returns-then-is_control-clause-explained g c =
     let i = c.self.inside in
-    taken_explained g.M.Consistency.rules c.args.event i.core.value c.take_weighed.new.core i.maker c.note_passed.new.self c.take_weighed.new.maker _ c.self.view_is (rw c.deref_mut-core.ensures.value at c.note_passed.ensures)
+    taken_explained g.M.Consistency.rules c.args.event i.core.value c.take_weighed.new.core i.maker c.note_passed.new.self c.take_weighed.new.self _ c.self.view_is (rw c.deref_mut-core.ensures.value at c.note_passed.ensures)
     c.take_weighed.result (rw c.deref_mut-core.ensures.value at c.take_weighed.ensures.step) (rw c.deref_mut-core.ensures.value at c.take_weighed.ensures.made)
 
 pub returns-then-is_control-clause-unchanged : goal.returns-then-is_control-clause-unchanged
 returns-then-is_control-clause-unchanged g c =
     let i = c.self.inside in
-    taken_unchanged g.M.Consistency.rules c.args.event i.core.value c.take_weighed.new.core i.maker c.note_passed.new.self c.take_weighed.new.maker _ c.self.view_is (rw c.deref_mut-core.ensures.value at c.note_passed.ensures)
+    taken_unchanged g.M.Consistency.rules c.args.event i.core.value c.take_weighed.new.core i.maker c.note_passed.new.self c.take_weighed.new.self _ c.self.view_is (rw c.deref_mut-core.ensures.value at c.note_passed.ensures)
     c.take_weighed.result (rw c.deref_mut-core.ensures.value at c.take_weighed.ensures.unchanged) c.take_weighed.ensures.ended c.take_weighed.ensures.current
 
 pub returns-in-Walk-clause-explained : goal.returns-in-Walk-clause-explained
 returns-in-Walk-clause-explained g c =
     let i = c.self.inside in
-    taken_explained g.M.Consistency.rules c.args.event i.core.value c.take_scan.new.core i.maker c.note_passed.new.self c.take_scan.new.maker _ c.self.view_is (rw c.deref_mut-core.ensures.value at c.note_passed.ensures)
+    taken_explained g.M.Consistency.rules c.args.event i.core.value c.take_scan.new.core i.maker c.note_passed.new.self c.take_scan.new.self _ c.self.view_is (rw c.deref_mut-core.ensures.value at c.note_passed.ensures)
     c.take_scan.result (rw c.deref_mut-core.ensures.value at c.take_scan.ensures.step) (rw c.deref_mut-core.ensures.value at c.take_scan.ensures.made)
 
 pub returns-in-Walk-clause-unchanged : goal.returns-in-Walk-clause-unchanged
 returns-in-Walk-clause-unchanged g c =
     let i = c.self.inside in
-    taken_unchanged g.M.Consistency.rules c.args.event i.core.value c.take_scan.new.core i.maker c.note_passed.new.self c.take_scan.new.maker _ c.self.view_is (rw c.deref_mut-core.ensures.value at c.note_passed.ensures)
+    taken_unchanged g.M.Consistency.rules c.args.event i.core.value c.take_scan.new.core i.maker c.note_passed.new.self c.take_scan.new.self _ c.self.view_is (rw c.deref_mut-core.ensures.value at c.note_passed.ensures)
     c.take_scan.result (rw c.deref_mut-core.ensures.value at c.take_scan.ensures.unchanged) c.take_scan.ensures.ended c.take_scan.ensures.current
 
 pub returns-in-Stop-clause-explained : goal.returns-in-Stop-clause-explained
 returns-in-Stop-clause-explained g c =
     let i = c.self.inside in
-    taken_explained g.M.Consistency.rules c.args.event i.core.value c.take_scan-in-Stop.new.core i.maker c.note_passed.new.self c.take_scan-in-Stop.new.maker _ c.self.view_is (rw c.deref_mut-core.ensures.value at c.note_passed.ensures)
+    taken_explained g.M.Consistency.rules c.args.event i.core.value c.take_scan-in-Stop.new.core i.maker c.note_passed.new.self c.take_scan-in-Stop.new.self _ c.self.view_is (rw c.deref_mut-core.ensures.value at c.note_passed.ensures)
     c.take_scan-in-Stop.result (rw c.deref_mut-core.ensures.value at c.take_scan-in-Stop.ensures.step) (rw c.deref_mut-core.ensures.value at c.take_scan-in-Stop.ensures.made)
 
 pub returns-in-Stop-clause-unchanged : goal.returns-in-Stop-clause-unchanged
 returns-in-Stop-clause-unchanged g c =
     let i = c.self.inside in
-    taken_unchanged g.M.Consistency.rules c.args.event i.core.value c.take_scan-in-Stop.new.core i.maker c.note_passed.new.self c.take_scan-in-Stop.new.maker _ c.self.view_is (rw c.deref_mut-core.ensures.value at c.note_passed.ensures)
+    taken_unchanged g.M.Consistency.rules c.args.event i.core.value c.take_scan-in-Stop.new.core i.maker c.note_passed.new.self c.take_scan-in-Stop.new.self _ c.self.view_is (rw c.deref_mut-core.ensures.value at c.note_passed.ensures)
     c.take_scan-in-Stop.result (rw c.deref_mut-core.ensures.value at c.take_scan-in-Stop.ensures.unchanged) c.take_scan-in-Stop.ensures.ended c.take_scan-in-Stop.ensures.current
 
 pub returns-in_default-clause-explained : goal.returns-in_default-clause-explained

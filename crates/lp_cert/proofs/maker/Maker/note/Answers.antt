@@ -7,7 +7,8 @@ use Rattle.lp_cert.specs.Ends.{Made, Room, IsMadeWith, is_opening, room_for}
 use Rattle.lp_cert.specs.Invariant.{open_end, room_of}
 use Rattle.lp_definitions.specs.Ends.{LegEnd}
 use Rattle.lp_cert.specs.inside.Waiters.{has_off}
-use Rattle.lp_cert.proofs.Noted.{none_made, still_made, turned_made, ready_for, room_is, opens_is}
+use Rattle.lp_cert.proofs.Noted.{none_made, still_made, turned_made}
+use Rattle.lp_cert.proofs.Readied.{ready_for, room_is, opens_is}
 use Rattle.lp_cert.proofs.Asked.{not_so, not_other}
 use Rattle.lp_cert.proofs.OwnEffects.{own_room}
 use Rattle.lp_cert.proofs.maker.Maker.note.Goals as goal
