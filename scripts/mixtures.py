@@ -69,10 +69,9 @@ class Life:
         for number in count(1):
             if number % control_in == 0:
                 yield self.draw.choice(["enable", "enable", "disable", "reverse"])
-            elif number % self.of.scan_in == 0:
+            if number % self.of.scan_in == 0:
                 yield from self.scan()
-            else:
-                yield from self.task(self.draw.choice(self.live))
+            yield from self.task(self.draw.choice(self.live))
 
     def scan(self) -> Iterator[str]:
         yield "stop" if self.of.model == "all-at-once" else "walk"
