@@ -16,7 +16,9 @@ MOST_IDLE = 4
 
 
 class Mixture(NamedTuple):
-    """What a trace has. With `wide` the tasks are more with the events and the control events stay as many; else the other way."""
+    """What a trace has. With `wide` the tasks are more with the events, and control events and scans stay as many; else the other way.
+    So a longer trace is the same at a larger scale.
+    """
 
     seed: int
     model: str
@@ -25,7 +27,7 @@ class Mixture(NamedTuple):
     patches: int
     depth: int
     idle: int
-    scan_in: int
+    scans: int
     controls: int
     birth_in: int
     shares: float
@@ -34,11 +36,11 @@ class Mixture(NamedTuple):
     def what(self) -> str:
         """In words, for lists."""
         if self.wide:
-            more = f"a task in {self.tasks} events, {self.controls} control events"
+            more = f"a task in {self.tasks} events, {self.controls} control events, {self.scans:,} scans"
         else:
-            more = f"{self.tasks:,} tasks, a control event in {self.controls}"
+            more = f"{self.tasks:,} tasks, a control event in {self.controls}, a scan in {self.scans:,}"
         births = f"a birth or death in {self.birth_in:,}, {self.shares:.0%} of the children in their parent's group"
-        return f"{more}, a scan in {self.scan_in:,}, {births}, {self.patches} patches, {self.depth} deep"
+        return f"{more}, {births}, {self.patches} patches, {self.depth} deep"
 
     def make(self, events: int) -> Trace:
         """Its trace for a number of events."""
@@ -49,7 +51,8 @@ class Mixture(NamedTuple):
         head += [f"patch {patch + 1} {name}" for patch in range(self.patches) for name in symbols[8 * patch : 8 * patch + 16]]
         head += [f"boot {task} normal" for task in range(1, tasks + 1)]
         head += [f"boot {task} idle" for task in range(tasks + 1, tasks + self.idle + 1)]
-        return head, Life(self, tasks, symbols).events(events // self.controls if self.wide else self.controls)
+        often = [max(events // many, 1) if self.wide else many for many in (self.controls, self.scans)]
+        return head, Life(self, tasks, symbols).events(*often)
 
 
 class Life:
@@ -65,11 +68,11 @@ class Life:
         self.idle = range(tasks + 1, tasks + of.idle + 1)
         self.unborn = iter(range(tasks + of.idle + 1, LAST_TASK + 1))
 
-    def events(self, control_in: int) -> Iterator[str]:
+    def events(self, control_in: int, scan_in: int) -> Iterator[str]:
         for number in count(1):
             if number % control_in == 0:
                 yield self.draw.choice(["enable", "enable", "disable", "reverse"])
-            if number % self.of.scan_in == 0:
+            if number % scan_in == 0:
                 yield from self.scan()
             yield from self.task(self.draw.choice(self.live))
 
@@ -126,7 +129,7 @@ def drawn(number: int) -> Mixture:
         depth=draw.choice([1, 4, 20, 100]),
         idle=draw.randint(0, MOST_IDLE),
         # Each scan may have a line of the report for each task.
-        scan_in=draw.choice([100, 1000, 5000] if wide else [3, 10, 100]),
+        scans=draw.choice([2000, 200, 40] if wide else [3, 10, 100]),
         controls=draw.choice([10, 30, 100] if wide else [30, 300, 3000]),
         birth_in=draw.choice([5, 20, 100, 1000]),
         shares=draw.choice([0.1, 0.5, 0.9]),
